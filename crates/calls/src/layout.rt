@@ -1,0 +1,151 @@
+// From the numbers of a record, its kind and its fields, to the command.
+ghost use mathlib.Core.Path.{_≡_};
+ghost use mathlib.Core.Bool.{cond};
+ghost use Prim.Native.Nat.{ℕ, _≤_};
+ghost use lib.ListN.{length};
+ghost use Rattle.std.specs.Options.{Cases};
+ghost use Rattle.std.specs.declared.option.Option.the-variants.{Some, None};
+ghost use Rattle.calls.specs.declared.command.Command.{Command as AnyCommand};
+ghost use Rattle.calls.specs.Layout.{layout, laid, directoryLayout, consentLayout, sessionLayout, questionLayout, familyOf, familyOfKind, fieldCount, known};
+ghost use Rattle.calls.specs.Spelling.{Spells};
+use crate::command::Command;
+use crate::command::Consent;
+use crate::command::Directory;
+use crate::command::Family;
+use crate::command::Question;
+use crate::command::Session;
+
+// How many fields a record of each kind has; no kind is 0.
+const FIELD_COUNTS: [u8; 31] = [
+    0, // no kind
+    1, 1, 1, 1, 2, 2, 2, 2, 1, 3, 1, 3, 3, 4, 4, 1, 1, // directory
+    2, 2, 3, 3, // consent
+    2, 1, 2, 2, 3, 4, 4, // session
+    2, 3, // question
+];
+
+// How many fields a record of this kind has; none where there is no such kind.
+pub fn field_count(kind: u16) -> Option<usize>
+    ensures { λ r. ⌜ r ≡ cond (known kind) (Some (fieldCount kind)) None ⌝ }
+{
+    if kind == 0 || kind > 30 {
+        return None;
+    }
+    Some(FIELD_COUNTS[kind as usize] as usize)
+}
+
+impl Family {
+    // The family of a kind; none where there is no such kind.
+    pub fn of(kind: u16) -> Option<Family>
+        ensures { λ r. ⌜ r ≡ familyOfKind kind ⌝ }
+    {
+        match kind {
+            1..=17 => Some(Family::Directory),
+            18..=21 => Some(Family::Consent),
+            22..=28 => Some(Family::Session),
+            29..=30 => Some(Family::Question),
+            _ => None,
+        }
+    }
+}
+
+impl Directory {
+    fn from_fields(kind: u16, fields: &[u16]) -> Directory
+        requires { ⌜ 1 ≤ kind ⌝ ∗ ⌜ kind ≤ 17 ⌝ ∗ ⌜ length (now fields) ≡ fieldCount kind ⌝ }
+        ensures { λ r. ⌜ Spells (directoryLayout r) kind (now (fields .entry)) ⌝ }
+    {
+        match kind {
+            1 => Directory::AddUser { user: fields[0] },
+            2 => Directory::DeleteUser { user: fields[0] },
+            3 => Directory::AddRole { role: fields[0] },
+            4 => Directory::DeleteRole { role: fields[0] },
+            5 => Directory::Assign { user: fields[0], role: fields[1] },
+            6 => Directory::Deassign { user: fields[0], role: fields[1] },
+            7 => Directory::AddInheritance { ascendant: fields[0], descendant: fields[1] },
+            8 => Directory::DeleteInheritance { ascendant: fields[0], descendant: fields[1] },
+            9 => Directory::AddPlainObject { object: fields[0] },
+            10 => Directory::AddPersonalObject { object: fields[0], owner: fields[1], types: fields[2] },
+            11 => Directory::DeleteObject { object: fields[0] },
+            12 => Directory::GrantPlain { operation: fields[0], object: fields[1], role: fields[2] },
+            13 => Directory::RevokePlain { operation: fields[0], object: fields[1], role: fields[2] },
+            14 => Directory::GrantPrivate { operation: fields[0], object: fields[1], purpose: fields[2], role: fields[3] },
+            15 => Directory::RevokePrivate { operation: fields[0], object: fields[1], purpose: fields[2], role: fields[3] },
+            16 => Directory::AddOwner { owner: fields[0] },
+            _ => Directory::DeleteOwner { owner: fields[0] },
+        }
+    }
+}
+
+impl Consent {
+    fn from_fields(kind: u16, fields: &[u16]) -> Consent
+        requires { ⌜ 18 ≤ kind ⌝ ∗ ⌜ kind ≤ 21 ⌝ ∗ ⌜ length (now fields) ≡ fieldCount kind ⌝ }
+        ensures { λ r. ⌜ Spells (consentLayout r) kind (now (fields .entry)) ⌝ }
+    {
+        match kind {
+            18 => Consent::Offer { purpose: fields[0], data_type: fields[1] },
+            19 => Consent::Retract { purpose: fields[0], data_type: fields[1] },
+            20 => Consent::Give { owner: fields[0], purpose: fields[1], data_type: fields[2] },
+            _ => Consent::Withdraw { owner: fields[0], purpose: fields[1], data_type: fields[2] },
+        }
+    }
+}
+
+impl Session {
+    fn from_fields(kind: u16, fields: &[u16]) -> Session
+        requires { ⌜ 22 ≤ kind ⌝ ∗ ⌜ kind ≤ 28 ⌝ ∗ ⌜ length (now fields) ≡ fieldCount kind ⌝ }
+        ensures { λ r. ⌜ Spells (sessionLayout r) kind (now (fields .entry)) ⌝ }
+    {
+        match kind {
+            22 => Session::Open { session: fields[0], user: fields[1] },
+            23 => Session::End { session: fields[0] },
+            24 => Session::ActivateRole { session: fields[0], role: fields[1] },
+            25 => Session::DropRole { session: fields[0], role: fields[1] },
+            26 => Session::AccessPlain { session: fields[0], operation: fields[1], object: fields[2] },
+            27 => Session::Use { session: fields[0], operation: fields[1], object: fields[2], purpose: fields[3] },
+            _ => Session::Look { session: fields[0], operation: fields[1], object: fields[2], purpose: fields[3] },
+        }
+    }
+}
+
+impl Question {
+    fn from_fields(kind: u16, fields: &[u16]) -> Question
+        requires { ⌜ 29 ≤ kind ⌝ ∗ ⌜ kind ≤ 30 ⌝ ∗ ⌜ length (now fields) ≡ fieldCount kind ⌝ }
+        ensures { λ r. ⌜ Spells (questionLayout r) kind (now (fields .entry)) ⌝ }
+    {
+        match kind {
+            29 => Question::Authorised { user: fields[0], role: fields[1] },
+            _ => Question::Consented { owner: fields[0], purpose: fields[1], data_type: fields[2] },
+        }
+    }
+}
+
+impl Command {
+    // The command of this kind with these fields, in their order; none where no command has both.
+    pub fn from_fields(kind: u16, fields: &[u16]) -> Option<Command>
+        ensures { λ r. ⌜ Cases r ((c : AnyCommand) → layout c ≡ laid kind (now (fields .entry)) → ⊥) (λ c. layout c ≡ laid kind (now (fields .entry))) ⌝ }
+    {
+        if field_count(kind) != Some(fields.len()) {
+            return None;
+        }
+        let command = match Family::of(kind)? {
+            Family::Directory => Command::Directory(Directory::from_fields(kind, fields)),
+            Family::Consent => Command::Consent(Consent::from_fields(kind, fields)),
+            Family::Session => Command::Session(Session::from_fields(kind, fields)),
+            Family::Question => Command::Question(Question::from_fields(kind, fields)),
+        };
+        Some(command)
+    }
+
+    // The family that the command belongs to, which is that of its kind.
+    pub fn family(self) -> Family
+        ensures value { λ r. ⌜ r ≡ familyOf self ⌝ }
+        ensures of_kind { λ r. ⌜ familyOfKind (layout self .kind) ≡ Some r ⌝ }
+    {
+        match self {
+            Command::Directory(_) => Family::Directory,
+            Command::Consent(_) => Family::Consent,
+            Command::Session(_) => Family::Session,
+            Command::Question(_) => Family::Question,
+        }
+    }
+}

@@ -1,1 +1,5 @@
+pub mod Counted
+mod Few
+pub mod Known
 mod Spelled
+pub mod Told

@@ -1,9 +1,11 @@
 // From the numbers of a record, its kind and its fields, to the command.
 ghost use mathlib.Core.Path.{_≡_};
-ghost use mathlib.Core.Bool.{cond};
+ghost use mathlib.Core.Bool.{cond, _&&_};
 ghost use Prim.Native.Nat.{ℕ, _≤_};
 ghost use lib.ListN.{length};
-ghost use Rattle.std.specs.Options.{Cases};
+ghost use lib.Dec.{eqb};
+ghost use Rattle.std.specs.Options.{isSome};
+ghost use Rattle.std.specs.Slices.{found as made};
 ghost use Rattle.std.specs.declared.option.Option.the-variants.{Some, None};
 ghost use Rattle.calls.specs.declared.command.Command.{Command as AnyCommand};
 ghost use Rattle.calls.specs.Layout.{layout, laid, directoryLayout, consentLayout, sessionLayout, questionLayout, familyOf, familyOfKind, fieldCount, known};
@@ -14,6 +16,9 @@ use crate::command::Directory;
 use crate::command::Family;
 use crate::command::Question;
 use crate::command::Session;
+
+// No command has more fields.
+pub const MAX_FIELDS: usize = 4;
 
 // How many fields a record of each kind has; no kind is 0.
 const FIELD_COUNTS: [u8; 31] = [
@@ -26,7 +31,8 @@ const FIELD_COUNTS: [u8; 31] = [
 
 // How many fields a record of this kind has; none where there is no such kind.
 pub fn field_count(kind: u16) -> Option<usize>
-    ensures { λ r. ⌜ r ≡ cond (known kind) (Some (fieldCount kind)) None ⌝ }
+    ensures value { λ r. ⌜ r ≡ cond (known kind) (Some (fieldCount kind)) None ⌝ }
+    ensures few { λ r. ⌜ made r (λ n. n ≤ 4) ⌝ }
 {
     if kind == 0 || kind > 30 {
         return None;
@@ -120,20 +126,29 @@ impl Question {
 }
 
 impl Command {
-    // The command of this kind with these fields, in their order; none where no command has both.
-    pub fn from_fields(kind: u16, fields: &[u16]) -> Option<Command>
-        ensures { λ r. ⌜ Cases r ((c : AnyCommand) → layout c ≡ laid kind (now (fields .entry)) → ⊥) (λ c. layout c ≡ laid kind (now (fields .entry))) ⌝ }
+    fn of(family: Family, kind: u16, fields: &[u16]) -> Command
+        requires { ⌜ familyOfKind kind ≡ Some family ⌝ ∗ ⌜ length (now fields) ≡ fieldCount kind ⌝ }
+        ensures { λ r. ⌜ Spells (layout r) kind (now (fields .entry)) ⌝ }
     {
-        if field_count(kind) != Some(fields.len()) {
-            return None;
-        }
-        let command = match Family::of(kind)? {
+        match family {
             Family::Directory => Command::Directory(Directory::from_fields(kind, fields)),
             Family::Consent => Command::Consent(Consent::from_fields(kind, fields)),
             Family::Session => Command::Session(Session::from_fields(kind, fields)),
             Family::Question => Command::Question(Question::from_fields(kind, fields)),
-        };
-        Some(command)
+        }
+    }
+
+    // The command of this kind with these fields, in their order; none where no command has both.
+    pub fn from_fields(kind: u16, fields: &[u16]) -> Option<Command>
+        ensures found { λ r. ⌜ made r (λ c. layout c ≡ laid kind (now (fields .entry))) ⌝ }
+        ensures only { λ r. ⌜ ((c : AnyCommand) → layout c ≡ laid kind (now (fields .entry)) → r ≡ Some c) ⌝ }
+        ensures test { λ r. ⌜ isSome r ≡ (known kind && eqb (length (now (fields .entry))) (fieldCount kind)) ⌝ }
+    {
+        let family = Family::of(kind)?;
+        if field_count(kind) != Some(fields.len()) {
+            return None;
+        }
+        Some(Command::of(family, kind, fields))
     }
 
     // The family that the command belongs to, which is that of its kind.

@@ -1,14 +1,16 @@
+use mathlib.Core.Path.{sym, ap, _∙_}
+use Rattle.std.specs.declared.option.Option.the-variants.{Some}
+use Rattle.calls.proofs.Counted.{counts, layout-counts}
 use Rattle.calls.proofs.Spelled.{spelled}
+use Rattle.calls.proofs.Told.{same-command}
 use Rattle.calls.proofs.command.Command.from_fields.Needs as need
 
-pub returns-in-Directory : need.returns-in-Directory
-returns-in-Directory c = spelled (c .from-fields .ensures)
-
-pub returns-in-Consent : need.returns-in-Consent
-returns-in-Consent c = spelled (c .from-fields-in-Consent .ensures)
-
-pub returns-in-Session : need.returns-in-Session
-returns-in-Session c = spelled (c .from-fields-in-Session .ensures)
-
-pub returns-in-Question : need.returns-in-Question
-returns-in-Question c = spelled (c .from-fields-in-Question .ensures)
+pub returns : need.returns
+returns c =
+    let command = c .of-2 .result in
+    let is = spelled (c .of-2 .ensures) in
+    record {
+      found = is;
+      only = λ d e. ap Some (same-command command d (is ∙ sym e));
+      test = sym (layout-counts command) ∙ ap counts is;
+    }

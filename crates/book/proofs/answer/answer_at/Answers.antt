@@ -1,0 +1,28 @@
+use mathlib.Core.Path.{_≡_, sym, ap, _∙_}
+use mathlib.Core.Bool.{cond}
+use Prim.Native.Nat.{_+_, _-_, _≤_}
+use native.Mathlib.Omega.{arith}
+use lib.ListN.{length}
+use borrow.Rule.Slice.PartMut.{putMid}
+use Rattle.std.proofs.shelf.Tests.{cond-true}
+use Rattle.book.specs.Format.{answered}
+use Rattle.book.specs.Reading.{isRecord}
+use Rattle.book.proofs.Lent.{answered-part}
+use Rattle.book.proofs.answer.answer_at.Needs as need
+
+pub returns : need.returns
+returns c =
+    let bs = c .args .book .now in
+    let at = c .args .at in
+    let size = at + c .size-size .result - at in
+    let is = ap isRecord (c .in-Record .ensures tt .reads) in
+    let filed = c .in-Record .ensures tt .filed in
+    let inside : at + size ≤ length bs = omega (arith, c .size-size .ensures, filed .inside) in
+    record {
+      value = is;
+      after =
+        ap (putMid at size bs) (c .put-answer .ensures)
+        ∙ answered-part at size bs inside (c .word .result) (omega (arith, c .size-size .ensures))
+        ∙ ap (answered bs at) (c .word .ensures)
+        ∙ sym (cond-true _ _ _ (sym is));
+    }

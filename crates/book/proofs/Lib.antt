@@ -4,3 +4,6 @@ pub mod Words
 pub mod Framing
 pub mod Commanded
 pub mod Lent
+pub mod Tiling
+pub mod Alone
+pub mod Surveyed

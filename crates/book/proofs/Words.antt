@@ -52,7 +52,7 @@ bytes-take n bs small i =
     (λ (le : n ≤ i). let past : length (take n bs) ≤ i = simp length-take (omega arith) in rw (getD-past (take n bs) i 0 past) (omega arith))
     (cases-lt i n)
 
-word-drop : (n : ℕ) (bs : List ℕ) → word (drop n bs) 0 ≡ word bs n
+pub word-drop : (n : ℕ) (bs : List ℕ) → word (drop n bs) 0 ≡ word bs n
 word-drop n bs = (λ i. getD-drop n bs 0 0 i + 256 * getD-drop n bs 1 0 i) ∙ ap (λ j. getD bs j 0 + 256 * getD bs (n + 1) 0) (add-zero n)
 
 -- one word more

@@ -4,3 +4,4 @@ pub mod Reading
 pub mod Handed
 pub mod Framing
 pub mod Commanded
+pub mod Tiling

@@ -2,10 +2,12 @@
 ghost use mathlib.Core.Path.{_≡_};
 ghost use mathlib.Core.Bool.{cond};
 ghost use Prim.Native.Nat.{ℕ, _≤_};
+ghost use lib.Dec.{T};
 ghost use lib.ListN.{length};
 ghost use Rattle.book.specs.Format.{answered};
 ghost use Rattle.book.specs.Numbers.{answerWord, faultNumber, layerNumber};
 ghost use Rattle.book.specs.Reading.{reading, isRecord};
+ghost use Rattle.book.specs.Tiling.{Answers-alone};
 use crate::reader::read;
 use crate::types::Fault;
 use crate::types::Layer;
@@ -61,6 +63,7 @@ fn put_answer(part: &mut [u8], answer: u16)
 pub fn answer_at(book: &mut [u8], at: usize, outcome: Outcome) -> bool
     ensures value { λ r. ⌜ r ≡ isRecord (reading (now (book .entry)) at) ⌝ }
     ensures after { λ _. ⌜ now (book .exit) ≡ cond (isRecord (reading (now (book .entry)) at)) (answered (now (book .entry)) at (answerWord outcome)) (now (book .entry)) ⌝ }
+    ensures alone { λ r. ⌜ (T r → Answers-alone (now (book .entry)) (now (book .exit)) at (answerWord outcome)) ⌝ }
 {
     let size = match read(book, at) {
         Reading::Record(record) => record.size(),

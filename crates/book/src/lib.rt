@@ -2,4 +2,5 @@
 pub mod answer;
 pub mod reader;
 pub mod record;
+pub mod survey;
 pub mod types;

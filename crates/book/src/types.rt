@@ -44,3 +44,26 @@ pub enum Outcome {
     Accepted,
     Refused { layer: Layer, number: u8 },
 }
+
+// How many records of each family a book has.
+#[derive(Clone, Copy, PartialEq, Eq, Debug)]
+pub struct Tally {
+    pub directory: usize,
+    pub consent: usize,
+    pub session: usize,
+    pub question: usize,
+}
+
+// Where the reading of a book stops: at its end, or at a fault.
+#[derive(Clone, Copy, PartialEq, Eq, Debug)]
+pub enum Ending {
+    End { length: usize },
+    Bad { place: usize, fault: Fault },
+}
+
+// What a reading of a whole book comes to.
+#[derive(Clone, Copy, PartialEq, Eq, Debug)]
+pub struct Survey {
+    pub tally: Tally,
+    pub ending: Ending,
+}

@@ -38,7 +38,7 @@ reading-from bs cs at long same =
 answered-behind : (xs ys : List ℕ) (e : Entry) (at a : ℕ) → length xs ≡ at → answered (xs ++ (entryBytes e ++ ys)) at a ≡ xs ++ (entryBytes (record { command = e .command; answer = a }) ++ ys)
 answered-behind xs ys e at a long =
     let put : (zs : List ℕ) (i v : ℕ) → set (xs ++ zs) (at + i) v ≡ xs ++ set zs i v =
-      λ zs i v. set-append-right xs zs at (at + i) v long (omega arith) ∙ ap (λ j. xs ++ set zs j v) (omega arith)
+    λ zs i v. set-append-right xs zs at (at + i) v long (omega arith) ∙ ap (λ j. xs ++ set zs j v) (omega arith)
     in
     ap (λ l. set l (at + 5) (a / 256)) (put (entryBytes e ++ ys) 4 (a % 256))
     ∙ put (set (entryBytes e ++ ys) 4 (a % 256)) 5 (a / 256)

@@ -41,7 +41,7 @@ module _ (x : Record) where
       let kind : l .kind ≡ kindOf x = a .kind in
       let count : length (l .fields) ≡ fieldCount (l .kind) = eqb-true _ _ (parts .1) in
       let long : length (bytesOf x) ≡ 2 * fieldCount (kindOf x) =
-        ap length (sym (a .fields)) ∙ length-wordBytes (l .fields) ∙ ap (λ n. 2 * n) (count ∙ ap fieldCount kind)
+      ap length (sym (a .fields)) ∙ length-wordBytes (l .fields) ∙ ap (λ n. 2 * n) (count ∙ ap fieldCount kind)
       in
       and-from (known (kindOf x)) _ (ap known (sym kind) ∙ parts .0) (eq-eqb _ _ long)
 

@@ -44,14 +44,14 @@ module _ {bs : List ℕ} {at kind answer : ℕ} {fields : List ℕ} (s : Stands 
   pub stands-found : length bs ≤ 65536 → reading bs at ≡ found kind (wordBytes fields)
   stands-found small =
       let passes : Passes bs at =
-        record {
-          small = small;
-          within = omega (arith, fits);
-          long = omega (arith, sized);
-          fits = omega (arith, fits, sized);
-          kind-known = ap known is-kind ∙ s .kind-known;
-          counted = sized ∙ ap (λ n. 6 + 2 * n) (s .counted) ∙ ap (λ k. 6 + 2 * fieldCount k) (sym is-kind);
-        }
+      record {
+        small = small;
+        within = omega (arith, fits);
+        long = omega (arith, sized);
+        fits = omega (arith, fits, sized);
+        kind-known = ap known is-kind ∙ s .kind-known;
+        counted = sized ∙ ap (λ n. 6 + 2 * n) (s .counted) ∙ ap (λ k. 6 + 2 * fieldCount k) (sym is-kind);
+      }
       in
       passes-found passes ∙ (λ i. found (is-kind i) (is-fields i))
 
@@ -99,8 +99,7 @@ module _ {bs : List ℕ} {at kind : ℕ} {bytes : List ℕ} (small : Bytes bs) (
       let whole = bytes-of-words (suc (suc (suc (fieldCount kind)))) part (omega (arith, part-long)) part-bytes in
       let header : word part 0 ≡ 6 + 2 * length fields = first ∙ ap (λ m. 6 + 2 * m) (sym all) in
       let is-part : part ≡ recordBytes kind answer fields = sym whole ∙ (λ i. wordBytes (header i ∷ second i ∷ answer ∷ fields)) in
-      let six : word bs at - 6 ≡ 2 * fieldCount kind = omega (arith, counted) in
-      (
+      let six : word bs at - 6 ≡ 2 * fieldCount kind = omega (arith, counted) in (
         answer,
         fields,
         record {
@@ -109,10 +108,10 @@ module _ {bs : List ℕ} {at kind : ℕ} {bytes : List ℕ} (small : Bytes bs) (
           bytes = ap (λ m. take (6 + 2 * m) (drop at bs)) all ∙ is-part;
         },
         sym (f .fields)
-        ∙ ap (λ m. take m (drop (at + 6) bs)) six
-        ∙ ap (take (2 * fieldCount kind)) (sym (drop-drop 6 at bs))
-        ∙ sym (drop-take 6 (2 * fieldCount kind) (drop at bs))
-        ∙ ap (drop 6) is-part,
+            ∙ ap (λ m. take m (drop (at + 6) bs)) six
+            ∙ ap (take (2 * fieldCount kind)) (sym (drop-drop 6 at bs))
+            ∙ sym (drop-take 6 (2 * fieldCount kind) (drop at bs))
+            ∙ ap (drop 6) is-part,
       )
 
 pub framed : {bs : List ℕ} {at : ℕ} {r : Found} → Bytes bs → r ≡ reading bs at → Framed bs at r

@@ -14,8 +14,8 @@ module _ (a k : ℕ) (xs : List ℕ) (inside : a + k ≤ length xs) where
       let less : a + i - a ≡ i = omega arith in
       sym
       (set-append-right (take a xs) (ys ++ postOf a k xs) a (a + i) v (length-take-le a xs (omega arith)) (omega arith)
-        ∙ ap (λ j. take a xs ++ set (ys ++ postOf a k xs) j v) less
-        ∙ ap (λ l. take a xs ++ l) (set-append-left ys (postOf a k xs) i v lt))
+      ∙ ap (λ j. take a xs ++ set (ys ++ postOf a k xs) j v) less
+      ∙ ap (λ l. take a xs ++ l) (set-append-left ys (postOf a k xs) i v lt))
 
   put-same : putMid a k xs (take k (drop a xs)) ≡ xs
   put-same = ap (λ l. take a xs ++ l) (take-append-drop k (drop a xs)) ∙ take-append-drop a xs

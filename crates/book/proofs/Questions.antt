@@ -67,14 +67,14 @@ found-passes bs at e =
     let room : word bs at ≤ length bs - at = ltb-false (length bs - at) (word bs at) (fits .0) in
     record {
       passes =
-        record {
-          small = ltb-false 65536 (length bs) (small .0);
-          within = omega arith;
-          long = ltb-false (word bs at) 6 (long .0);
-          fits = omega arith;
-          kind-known = not-false _ (is-known .0);
-          counted = eqb-true _ _ (not-false _ (counted .0));
-        };
+          record {
+            small = ltb-false 65536 (length bs) (small .0);
+            within = omega arith;
+            long = ltb-false (word bs at) 6 (long .0);
+            fits = omega arith;
+            kind-known = not-false _ (is-known .0);
+            counted = eqb-true _ _ (not-false _ (counted .0));
+          };
       kind = found-kind (counted .1);
       fields = found-fields (counted .1);
     }

@@ -39,9 +39,9 @@ read-entry bs at x c framed a =
     record {
       entry = record { command = c; answer = answer };
       entered =
-        ap (λ ws. take (6 + 2 * length ws) (drop at bs)) fields
-        ∙ stands .bytes
-        ∙ sym (λ i. recordBytes (a .kind i) answer (fields i));
+          ap (λ ws. take (6 + 2 * length ws) (drop at bs)) fields
+          ∙ stands .bytes
+          ∙ sym (λ i. recordBytes (a .kind i) answer (fields i));
       asks = refl;
       size = ap (λ ws. 6 + 2 * length ws) fields ∙ ap (λ n. 6 + 2 * n) (stands .counted);
     }

@@ -49,14 +49,14 @@ module _ (bs : List ℕ) where
   tiles-more es at e t is =
       let all : bookBytes (es ++ e ∷ []) ≡ bookBytes es ++ entryBytes e = bookBytes-append es (e ∷ []) ∙ ap (λ l. bookBytes es ++ l) (append-nil (entryBytes e)) in
       let rest : drop at bs ≡ entryBytes e ++ drop (at + sizeOf e) bs =
-        sym (take-append-drop (sizeOf e) (drop at bs)) ∙ (λ i. is i ++ drop-drop (sizeOf e) at bs i)
+      sym (take-append-drop (sizeOf e) (drop at bs)) ∙ (λ i. is i ++ drop-drop (sizeOf e) at bs i)
       in
       record {
         bytes =
-          t .bytes
-          ∙ ap (λ l. bookBytes es ++ l) rest
-          ∙ sym (append-assoc (bookBytes es) (entryBytes e) (drop (at + sizeOf e) bs))
-          ∙ ap (λ l. l ++ drop (at + sizeOf e) bs) (sym all);
+            t .bytes
+            ∙ ap (λ l. bookBytes es ++ l) rest
+            ∙ sym (append-assoc (bookBytes es) (entryBytes e) (drop (at + sizeOf e) bs))
+            ∙ ap (λ l. l ++ drop (at + sizeOf e) bs) (sym all);
         long = omega (arith, ap length all, length-append (bookBytes es) (entryBytes e), t .long, length-entryBytes e);
       }
 
@@ -81,7 +81,7 @@ module _ (bs : List ℕ) where
       let k = layout (e .command) in
       let l = layout (f .command) in
       let both : found (k .kind) (wordBytes (k .fields)) ≡ found (l .kind) (wordBytes (l .fields)) =
-        sym (stands-found (entered-stands bs at e is-e) small) ∙ stands-found (entered-stands bs at f is-f) small
+      sym (stands-found (entered-stands bs at e is-e) small) ∙ stands-found (entered-stands bs at f is-f) small
       in
       let kinds : k .kind ≡ l .kind = cc in
       let bytes : wordBytes (k .fields) ≡ wordBytes (l .fields) = cc in

@@ -61,4 +61,4 @@ words-more zero bs = refl
 words-more (suc n) bs =
     ap (λ ws. word bs 0 ∷ ws)
     (words-more n (drop 2 bs)
-      ∙ ap (λ w. wordsOf n (drop 2 bs) ++ w ∷ []) (sym (word-drop (2 * n) (drop 2 bs)) ∙ ap (λ l. word l 0) (drop-drop (2 * n) 2 bs) ∙ word-drop (2 + 2 * n) bs ∙ ap (word bs) (omega arith)))
+    ∙ ap (λ w. wordsOf n (drop 2 bs) ++ w ∷ []) (sym (word-drop (2 * n) (drop 2 bs)) ∙ ap (λ l. word l 0) (drop-drop (2 * n) 2 bs) ∙ word-drop (2 + 2 * n) bs ∙ ap (word bs) (omega arith)))

@@ -33,10 +33,26 @@ impl<'a> Record<'a> {
         ensures bytes { λ r. ⌜ bytesOf r ≡ now (fields .entry) ⌝ }
     {
         match family {
-            Family::Directory => Record::Directory { place, kind, fields },
-            Family::Consent => Record::Consent { place, kind, fields },
-            Family::Session => Record::Session { place, kind, fields },
-            Family::Question => Record::Question { place, kind, fields },
+            Family::Directory => Record::Directory {
+                place,
+                kind,
+                fields,
+            },
+            Family::Consent => Record::Consent {
+                place,
+                kind,
+                fields,
+            },
+            Family::Session => Record::Session {
+                place,
+                kind,
+                fields,
+            },
+            Family::Question => Record::Question {
+                place,
+                kind,
+                fields,
+            },
         }
     }
 }

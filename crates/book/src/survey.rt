@@ -13,7 +13,12 @@ impl Tally {
     fn none() -> Tally
         ensures { λ r. ⌜ r ≡ noneYet ⌝ }
     {
-        Tally { directory: 0, consent: 0, session: 0, question: 0 }
+        Tally {
+            directory: 0,
+            consent: 0,
+            session: 0,
+            question: 0,
+        }
     }
 
     fn count(&mut self, family: Family)
@@ -38,8 +43,14 @@ pub fn survey(book: &[u8]) -> Survey
     loop {
         let record = match read(book, at) {
             Reading::Record(record) => record,
-            Reading::End => return Survey { tally, ending: Ending::End { length: at } },
-            Reading::Bad(fault) => return Survey { tally, ending: Ending::Bad { place: at, fault } },
+            Reading::End => return Survey {
+                tally,
+                ending: Ending::End { length: at },
+            },
+            Reading::Bad(fault) => return Survey {
+                tally,
+                ending: Ending::Bad { place: at, fault },
+            },
         };
         let command = record.command().unwrap();
         tally.count(command.family());

@@ -4,10 +4,26 @@
 // which are a part of the book itself.
 #[derive(Clone, Copy)]
 pub enum Record<'a> {
-    Directory { place: usize, kind: u16, fields: &'a [u8] },
-    Consent { place: usize, kind: u16, fields: &'a [u8] },
-    Session { place: usize, kind: u16, fields: &'a [u8] },
-    Question { place: usize, kind: u16, fields: &'a [u8] },
+    Directory {
+        place: usize,
+        kind: u16,
+        fields: &'a [u8],
+    },
+    Consent {
+        place: usize,
+        kind: u16,
+        fields: &'a [u8],
+    },
+    Session {
+        place: usize,
+        kind: u16,
+        fields: &'a [u8],
+    },
+    Question {
+        place: usize,
+        kind: u16,
+        fields: &'a [u8],
+    },
 }
 
 // What stands at a place of a book.

@@ -1,3 +1,4 @@
 pub mod Layout
 pub mod Spelling
 pub mod Name
+pub mod Encoding

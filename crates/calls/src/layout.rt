@@ -23,10 +23,36 @@ pub const MAX_FIELDS: usize = 4;
 // How many fields a record of each kind has; no kind is 0.
 const FIELD_COUNTS: [u8; 31] = [
     0, // no kind
-    1, 1, 1, 1, 2, 2, 2, 2, 1, 3, 1, 3, 3, 4, 4, 1, 1, // directory
-    2, 2, 3, 3, // consent
-    2, 1, 2, 2, 3, 4, 4, // session
-    2, 3, // question
+    1,
+    1,
+    1,
+    1,
+    2,
+    2,
+    2,
+    2,
+    1,
+    3,
+    1,
+    3,
+    3,
+    4,
+    4,
+    1,
+    1, // directory
+    2,
+    2,
+    3,
+    3, // consent
+    2,
+    1,
+    2,
+    2,
+    3,
+    4,
+    4, // session
+    2,
+    3, // question
 ];
 
 // How many fields a record of this kind has; none where there is no such kind.
@@ -65,17 +91,51 @@ impl Directory {
             2 => Directory::DeleteUser { user: fields[0] },
             3 => Directory::AddRole { role: fields[0] },
             4 => Directory::DeleteRole { role: fields[0] },
-            5 => Directory::Assign { user: fields[0], role: fields[1] },
-            6 => Directory::Deassign { user: fields[0], role: fields[1] },
-            7 => Directory::AddInheritance { ascendant: fields[0], descendant: fields[1] },
-            8 => Directory::DeleteInheritance { ascendant: fields[0], descendant: fields[1] },
+            5 => Directory::Assign {
+                user: fields[0],
+                role: fields[1],
+            },
+            6 => Directory::Deassign {
+                user: fields[0],
+                role: fields[1],
+            },
+            7 => Directory::AddInheritance {
+                ascendant: fields[0],
+                descendant: fields[1],
+            },
+            8 => Directory::DeleteInheritance {
+                ascendant: fields[0],
+                descendant: fields[1],
+            },
             9 => Directory::AddPlainObject { object: fields[0] },
-            10 => Directory::AddPersonalObject { object: fields[0], owner: fields[1], types: fields[2] },
+            10 => Directory::AddPersonalObject {
+                object: fields[0],
+                owner: fields[1],
+                types: fields[2],
+            },
             11 => Directory::DeleteObject { object: fields[0] },
-            12 => Directory::GrantPlain { operation: fields[0], object: fields[1], role: fields[2] },
-            13 => Directory::RevokePlain { operation: fields[0], object: fields[1], role: fields[2] },
-            14 => Directory::GrantPrivate { operation: fields[0], object: fields[1], purpose: fields[2], role: fields[3] },
-            15 => Directory::RevokePrivate { operation: fields[0], object: fields[1], purpose: fields[2], role: fields[3] },
+            12 => Directory::GrantPlain {
+                operation: fields[0],
+                object: fields[1],
+                role: fields[2],
+            },
+            13 => Directory::RevokePlain {
+                operation: fields[0],
+                object: fields[1],
+                role: fields[2],
+            },
+            14 => Directory::GrantPrivate {
+                operation: fields[0],
+                object: fields[1],
+                purpose: fields[2],
+                role: fields[3],
+            },
+            15 => Directory::RevokePrivate {
+                operation: fields[0],
+                object: fields[1],
+                purpose: fields[2],
+                role: fields[3],
+            },
             16 => Directory::AddOwner { owner: fields[0] },
             _ => Directory::DeleteOwner { owner: fields[0] },
         }
@@ -88,10 +148,24 @@ impl Consent {
         ensures { λ r. ⌜ Spells (consentLayout r) kind (now (fields .entry)) ⌝ }
     {
         match kind {
-            18 => Consent::Offer { purpose: fields[0], data_type: fields[1] },
-            19 => Consent::Retract { purpose: fields[0], data_type: fields[1] },
-            20 => Consent::Give { owner: fields[0], purpose: fields[1], data_type: fields[2] },
-            _ => Consent::Withdraw { owner: fields[0], purpose: fields[1], data_type: fields[2] },
+            18 => Consent::Offer {
+                purpose: fields[0],
+                data_type: fields[1],
+            },
+            19 => Consent::Retract {
+                purpose: fields[0],
+                data_type: fields[1],
+            },
+            20 => Consent::Give {
+                owner: fields[0],
+                purpose: fields[1],
+                data_type: fields[2],
+            },
+            _ => Consent::Withdraw {
+                owner: fields[0],
+                purpose: fields[1],
+                data_type: fields[2],
+            },
         }
     }
 }
@@ -102,13 +176,36 @@ impl Session {
         ensures { λ r. ⌜ Spells (sessionLayout r) kind (now (fields .entry)) ⌝ }
     {
         match kind {
-            22 => Session::Open { session: fields[0], user: fields[1] },
+            22 => Session::Open {
+                session: fields[0],
+                user: fields[1],
+            },
             23 => Session::End { session: fields[0] },
-            24 => Session::ActivateRole { session: fields[0], role: fields[1] },
-            25 => Session::DropRole { session: fields[0], role: fields[1] },
-            26 => Session::AccessPlain { session: fields[0], operation: fields[1], object: fields[2] },
-            27 => Session::Use { session: fields[0], operation: fields[1], object: fields[2], purpose: fields[3] },
-            _ => Session::Look { session: fields[0], operation: fields[1], object: fields[2], purpose: fields[3] },
+            24 => Session::ActivateRole {
+                session: fields[0],
+                role: fields[1],
+            },
+            25 => Session::DropRole {
+                session: fields[0],
+                role: fields[1],
+            },
+            26 => Session::AccessPlain {
+                session: fields[0],
+                operation: fields[1],
+                object: fields[2],
+            },
+            27 => Session::Use {
+                session: fields[0],
+                operation: fields[1],
+                object: fields[2],
+                purpose: fields[3],
+            },
+            _ => Session::Look {
+                session: fields[0],
+                operation: fields[1],
+                object: fields[2],
+                purpose: fields[3],
+            },
         }
     }
 }
@@ -119,8 +216,15 @@ impl Question {
         ensures { λ r. ⌜ Spells (questionLayout r) kind (now (fields .entry)) ⌝ }
     {
         match kind {
-            29 => Question::Authorised { user: fields[0], role: fields[1] },
-            _ => Question::Consented { owner: fields[0], purpose: fields[1], data_type: fields[2] },
+            29 => Question::Authorised {
+                user: fields[0],
+                role: fields[1],
+            },
+            _ => Question::Consented {
+                owner: fields[0],
+                purpose: fields[1],
+                data_type: fields[2],
+            },
         }
     }
 }

@@ -1,5 +1,7 @@
 // The name by which a command is shown to a person.
 ghost use mathlib.Core.Path.{_≡_};
+ghost use Prim.Native.Nat.{_≤_};
+ghost use lib.ListN.{length};
 ghost use Rattle.calls.specs.Name.{commandName, directoryName, consentName, sessionName, questionName};
 use crate::command::Command;
 use crate::command::Consent;
@@ -9,7 +11,8 @@ use crate::command::Session;
 
 impl Directory {
     fn name(self) -> &'static str
-        ensures { λ r. ⌜ now r ≡ directoryName self ⌝ }
+        ensures value { λ r. ⌜ now r ≡ directoryName self ⌝ }
+        ensures short { λ r. ⌜ length (now r) ≤ 20 ⌝ }
     {
         match self {
             Directory::AddUser { .. } => "add user",
@@ -35,7 +38,8 @@ impl Directory {
 
 impl Consent {
     fn name(self) -> &'static str
-        ensures { λ r. ⌜ now r ≡ consentName self ⌝ }
+        ensures value { λ r. ⌜ now r ≡ consentName self ⌝ }
+        ensures short { λ r. ⌜ length (now r) ≤ 20 ⌝ }
     {
         match self {
             Consent::Offer { .. } => "offer",
@@ -48,7 +52,8 @@ impl Consent {
 
 impl Session {
     fn name(self) -> &'static str
-        ensures { λ r. ⌜ now r ≡ sessionName self ⌝ }
+        ensures value { λ r. ⌜ now r ≡ sessionName self ⌝ }
+        ensures short { λ r. ⌜ length (now r) ≤ 20 ⌝ }
     {
         match self {
             Session::Open { .. } => "open session",
@@ -64,7 +69,8 @@ impl Session {
 
 impl Question {
     fn name(self) -> &'static str
-        ensures { λ r. ⌜ now r ≡ questionName self ⌝ }
+        ensures value { λ r. ⌜ now r ≡ questionName self ⌝ }
+        ensures short { λ r. ⌜ length (now r) ≤ 20 ⌝ }
     {
         match self {
             Question::Authorised { .. } => "authorised",
@@ -75,7 +81,8 @@ impl Question {
 
 impl Command {
     pub fn name(self) -> &'static str
-        ensures { λ r. ⌜ now r ≡ commandName self ⌝ }
+        ensures value { λ r. ⌜ now r ≡ commandName self ⌝ }
+        ensures short { λ r. ⌜ length (now r) ≤ 20 ⌝ }
     {
         match self {
             Command::Directory(command) => command.name(),

@@ -22,9 +22,9 @@ returns c =
     let filed = c .in-Record .ensures tt .filed in
     let inside : at + size ≤ length bs = omega (arith, c .size-size .ensures, filed .inside) in
     let after =
-      ap (putMid at size bs) (c .put-answer .ensures)
-      ∙ answered-part at size bs inside (c .word .result) (omega (arith, c .size-size .ensures))
-      ∙ ap (answered bs at) (c .word .ensures)
+    ap (putMid at size bs) (c .put-answer .ensures)
+    ∙ answered-part at size bs inside (c .word .result) (omega (arith, c .size-size .ensures))
+    ∙ ap (answered bs at) (c .word .ensures)
     in
     record {
       value = is;

@@ -19,14 +19,14 @@ returns c =
     let kind = c .word-at-kind .ensures in
     let counts = counted-known (c .word-at-kind .result) (c .in-Some .count) (c .in-Some .ensures tt .value) in
     let passes : Passes bs at =
-      record {
-        small = omega arith;
-        within = omega arith;
-        long = omega (arith, size);
-        fits = omega (arith, size);
-        kind-known = ap known (sym kind) ∙ counts .0;
-        counted = sym size ∙ omega (arith, counts .1) ∙ ap (λ k. 6 + 2 * fieldCount k) kind;
-      }
+    record {
+      small = omega arith;
+      within = omega arith;
+      long = omega (arith, size);
+      fits = omega (arith, size);
+      kind-known = ap known (sym kind) ∙ counts .0;
+      counted = sym size ∙ omega (arith, counts .1) ∙ ap (λ k. 6 + 2 * fieldCount k) kind;
+    }
     in
     let r = c .of-2 .ensures in
     let is-kind = r .kind ∙ kind in
@@ -36,11 +36,11 @@ returns c =
     record {
       reads = (λ i. found (is-kind i) (is-fields i)) ∙ sym (passes-found passes);
       filed =
-        record {
-          place = r .place;
-          family = ap familyOfKind (r .kind) ∙ sym (c .in-Some-of .ensures tt) ∙ ap Some (sym (r .family));
-          kind-known = ap known is-kind ∙ passes .kind-known;
-          counted = ap length is-fields ∙ simp (length-take, length-drop) (omega (arith, counted, passes .fits));
-          inside = omega (arith, counted, passes .fits);
-        };
+          record {
+            place = r .place;
+            family = ap familyOfKind (r .kind) ∙ sym (c .in-Some-of .ensures tt) ∙ ap Some (sym (r .family));
+            kind-known = ap known is-kind ∙ passes .kind-known;
+            counted = ap length is-fields ∙ simp (length-take, length-drop) (omega (arith, counted, passes .fits));
+            inside = omega (arith, counted, passes .fits);
+          };
     }

@@ -16,14 +16,13 @@ loop-i-again c =
     let i = c .loop-i .i in
     let bytes = c .args .bytes .now in
     let within : i < length words = omega (arith, c .loop-i .inv .0) in
-    let kept = length-set words i (c .word-at .result) in
-    (
+    let kept = length-set words i (c .word-at .result) in (
       kept ∙ c .loop-i .inv .0,
       take-more _ i 0 (omega (arith, kept))
-      ∙ (λ j. take-set-le i words i (c .word-at .result) (omega arith) j ++ getD-set-same words i (c .word-at .result) 0 within j ∷ [])
-      ∙ (λ j. c .loop-i .inv .1 j ++ c .word-at .ensures j ∷ [])
-      ∙ sym (words-more i bytes)
-      ∙ ap (λ n. wordsOf n bytes) (sym (add-one i)),
+          ∙ (λ j. take-set-le i words i (c .word-at .result) (omega arith) j ++ getD-set-same words i (c .word-at .result) 0 within j ∷ [])
+          ∙ (λ j. c .loop-i .inv .1 j ++ c .word-at .ensures j ∷ [])
+          ∙ sym (words-more i bytes)
+          ∙ ap (λ n. wordsOf n bytes) (sym (add-one i)),
     )
 
 pub returns : need.returns

@@ -39,11 +39,10 @@ loop-record-again c =
     let es = so-far .0 in
     let size : at + sizeOf (it .entry) ≡ at + c .size-at .result = omega (arith, it .size, c .size-at .ensures) in
     let tally : c .count .last .self ≡ tallied noneYet (es ++ it .entry ∷ []) =
-      c .count .ensures
-      ∙ (λ i. counted ((c .family .ensures .value ∙ ap familyOf (sym (it .asks))) i) (so-far .2 i))
-      ∙ sym (tallied-more noneYet es (it .entry))
-    in
-    (
+    c .count .ensures
+    ∙ (λ i. counted ((c .family .ensures .value ∙ ap familyOf (sym (it .asks))) i) (so-far .2 i))
+    ∙ sym (tallied-more noneYet es (it .entry))
+    in (
       omega (arith, c .size-at .ensures, read .filed .inside),
       omega (arith, ap total (c .count .ensures), total-counted (c .family .result) (c .loop-record .tally), c .size-at .ensures),
       (es ++ it .entry ∷ [], subst (Tiles bs 0 (es ++ it .entry ∷ [])) size (tiles-more bs es at (it .entry) (so-far .1) (it .entered)), tally),

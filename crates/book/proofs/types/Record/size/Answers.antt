@@ -9,6 +9,6 @@ pub returns : need.returns
 returns c =
     ap (λ n. 6 + 2 * n)
     (c .unwrap-or .ensures
-      ∙ ap (λ o. valueOr o 0) (c .field-count .ensures .value)
-      ∙ count-or-none (c .kind .result)
-      ∙ ap fieldCount (c .kind .ensures))
+    ∙ ap (λ o. valueOr o 0) (c .field-count .ensures .value)
+    ∙ count-or-none (c .kind .result)
+    ∙ ap fieldCount (c .kind .ensures))

@@ -1,7 +1,7 @@
 // From a command to the numbers of its record: its kind and its fields.
 ghost use mathlib.Core.Path.{_≡_};
 ghost use Prim.Native.Nat.{ℕ, _≤_};
-ghost use lib.ListN.{take};
+ghost use lib.ListN.{length, take};
 ghost use Rattle.calls.specs.Layout.{layout, laid, directoryLayout, consentLayout, sessionLayout, questionLayout};
 ghost use Rattle.calls.specs.Encoding.{written};
 use crate::command::Command;
@@ -28,7 +28,8 @@ impl Encoded {
 
     // The fields in their order.
     pub fn fields(&self) -> &[u16]
-        ensures { λ r. ⌜ now r ≡ written (now (self .entry)) .fields ⌝ }
+        ensures value { λ r. ⌜ now r ≡ written (now (self .entry)) .fields ⌝ }
+        ensures few { λ r. ⌜ length (now r) ≤ 4 ⌝ }
     {
         &self.words[0..self.count]
     }

@@ -1,5 +1,6 @@
 -- Entries that tile a book: one more at the end, the first one taken off, and that there is one way only.
 use mathlib.Core.Path.{_≡_, refl, sym, ap, subst, _∙_}
+use mathlib.Core.Logic.{⊎-elim}
 use mathlib.Core.Bool.{true, false}
 use mathlib.Core.List.{List, [], _∷_, _++_, append-assoc, append-nil}
 use Prim.Native.Nat.{ℕ, suc, _+_, _-_, _*_, _/_, _%_, _≤_, _<_}
@@ -8,7 +9,7 @@ use native.Mathlib.Omega.{arith}
 use lib.Dec.{eqb}
 use lib.ListN.{length, getD, take, drop, take-append-drop, length-append}
 use Rattle.std.proofs.shelf.Lists.{take-at, drop-at, drop-drop}
-use Rattle.std.proofs.shelf.Tests.{and-parts, eqb-true, both-ways}
+use Rattle.std.proofs.shelf.Tests.{and-parts, eqb-true, both-ways, cases-lt}
 use Rattle.calls.specs.Layout.{Layout, layout, laid, known, fieldCount, familyOf}
 use Rattle.calls.specs.declared.command.Command.{Command}
 use Rattle.calls.proofs.Counted.{layout-counts}
@@ -16,7 +17,7 @@ use Rattle.calls.proofs.Told.{same-command}
 use Rattle.book.specs.Format.{wordBytes, recordBytes}
 use Rattle.book.specs.Reading.{Found, found, reading, isRecord}
 use Rattle.book.specs.Framing.{Stands}
-use Rattle.book.specs.Tiling.{Entry, entryBytes, bookBytes, Tiles, counted, tallied}
+use Rattle.book.specs.Tiling.{Entry, entryBytes, bookBytes, Tiles, Stops, counted, tallied}
 use Rattle.book.specs.declared.types.Tally.{Tally}
 use Rattle.book.proofs.Words.{length-wordBytes, word-back}
 use Rattle.book.proofs.Commanded.{same-words}
@@ -112,6 +113,22 @@ module _ (bs : List ℕ) where
       let next : Tiles bs (at + sizeOf e) fs end = subst (λ g. Tiles bs (at + sizeOf g) fs end) (sym same) (others-tile u) in
       let rest = tiles-only (at + sizeOf e) es fs to end small (others-tile t) stop next halt in
       ((λ i. same i ∷ rest .0 i), rest .1)
+
+-- entries that take no bytes are none
+no-bytes : (es : List Entry) → length (bookBytes es) ≡ 0 → es ≡ []
+no-bytes [] e = refl
+no-bytes (e ∷ es) none = absurd (omega (arith, none, length-append (entryBytes e) (bookBytes es), length-entryBytes e))
+
+-- the entries up to where a book's reading stops, and that place, are told by the book
+pub stops-only : (bs : List ℕ) (es fs : List Entry) (to end : ℕ) → Tiles bs 0 es to → Stops bs to → Tiles bs 0 fs end → Stops bs end → (es ≡ fs) × (to ≡ end)
+stops-only bs es fs to end t stop u halt =
+    ⊎-elim
+    (λ large.
+    let here : to ≡ 0 = stop .large large in
+    let there : end ≡ 0 = halt .large large in
+    (no-bytes es (omega (arith, t .long)) ∙ sym (no-bytes fs (omega (arith, u .long))), here ∙ sym there))
+    (λ small. tiles-only bs 0 es fs to end small t (stop .no-record) u (halt .no-record))
+    (cases-lt 65536 (length bs))
 
 -- one entry more is one more of its family
 pub tallied-more : (t : Tally) (es : List Entry) (e : Entry) → tallied t (es ++ e ∷ []) ≡ counted (familyOf (e .command)) (tallied t es)

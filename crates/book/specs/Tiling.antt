@@ -2,7 +2,7 @@
 use mathlib.Core.Path.{_≡_}
 use mathlib.Core.Bool.{false}
 use mathlib.Core.List.{List, [], _∷_, _++_}
-use Prim.Native.Nat.{ℕ, suc, _+_, _≤_}
+use Prim.Native.Nat.{ℕ, _+_, _<_}
 use lib.ListN.{length, drop}
 use Rattle.calls.specs.Layout.{layout, familyOf}
 use Rattle.calls.specs.declared.command.Command.{Command}
@@ -55,14 +55,21 @@ abbrev pub stopFound : Ending → Found
 stopFound (End n) = ends
 stopFound (Bad p f) = faulty f
 
+-- the reading of the book bs stops at the byte to: no record stands there, and of a book that is too large nothing
+-- was read
+pub record Stops (bs : List ℕ) (to : ℕ) : Type 0 where
+  pub no-record : isRecord (reading bs to) ≡ false
+  pub large : 65536 < length bs → to ≡ 0
+
 -- a book was read from its first byte to where it ends or is damaged
 pub record Surveyed (bs : List ℕ) (s : Survey) : Type 0 where
   pub entries : List Entry
   pub tiles : Tiles bs 0 entries (stopPlace (s .ending))
-  pub stops : reading bs (stopPlace (s .ending)) ≡ stopFound (s .ending)
+  pub stops : Stops bs (stopPlace (s .ending))
+  pub finds : reading bs (stopPlace (s .ending)) ≡ stopFound (s .ending)
   pub tally : s .tally ≡ tallied noneYet entries
-  -- no other entries tile it up to a place where no record stands
-  pub only : length bs ≤ 65536 → (others : List Entry) (to : ℕ) → Tiles bs 0 others to → isRecord (reading bs to) ≡ false → (others ≡ entries) × (to ≡ stopPlace (s .ending))
+  -- these are the only entries that tile the book up to where its reading stops
+  pub only : (others : List Entry) (to : ℕ) → Tiles bs 0 others to → Stops bs to → (others ≡ entries) × (to ≡ stopPlace (s .ending))
 
 -- the book bs became the book cs by the answer a at the byte at, and by nothing else: where that is the place of an
 -- entry, every entry keeps its command, every other its answer, and what stands behind the entries is as it was

@@ -5,16 +5,16 @@ use native.Mathlib.Omega.{arith}
 use Rattle.std.specs.Slices.{found as made}
 use Rattle.calls.specs.Layout.{familyOf}
 use Rattle.book.specs.Commanded.{Asks}
-use Rattle.book.specs.Tiling.{Tiles, counted, tallied, noneYet}
+use Rattle.book.specs.Tiling.{counted, tallied, noneYet}
 use Rattle.book.specs.declared.types.Ending.the-variants.{End, Bad}
-use Rattle.book.proofs.Tiling.{sizeOf, tiles-more, tallied-more}
-use Rattle.book.proofs.Surveyed.{read-entry, total, total-counted, surveyed}
+use Rattle.book.proofs.Tiling.{tallied-more}
+use Rattle.book.proofs.Surveyed.{Walked, walk-none, walk-more, read-entry, total, total-counted, surveyed}
 use Rattle.book.proofs.survey.survey.Needs as need
 
 pub loop-record-holds : need.loop-record-holds
 loop-record-holds c =
     let none = c .none-tally .ensures in
-    (omega arith, omega (arith, ap total none), ([], record { bytes = refl; long = refl }, none))
+    (omega arith, omega (arith, ap total none), ([], walk-none (c .args .book .now), none))
 
 pub returns-in-End : need.returns-in-End
 returns-in-End c =
@@ -37,7 +37,7 @@ loop-record-again c =
     let it = read-entry bs at x command (read .framed) asks in
     let so-far = c .loop-record .inv .2 in
     let es = so-far .0 in
-    let size : at + sizeOf (it .entry) ≡ at + c .size-at .result = omega (arith, it .size, c .size-at .ensures) in
+    let walked = subst (λ n. Walked bs (at + n) (es ++ it .entry ∷ [])) (sym (c .size-at .ensures)) (walk-more (so-far .1) (read .reads) it) in
     let tally : c .count .last .self ≡ tallied noneYet (es ++ it .entry ∷ []) =
     c .count .ensures
     ∙ (λ i. counted ((c .family .ensures .value ∙ ap familyOf (sym (it .asks))) i) (so-far .2 i))
@@ -45,5 +45,5 @@ loop-record-again c =
     in (
       omega (arith, c .size-at .ensures, read .filed .inside),
       omega (arith, ap total (c .count .ensures), total-counted (c .family .result) (c .loop-record .tally), c .size-at .ensures),
-      (es ++ it .entry ∷ [], subst (Tiles bs 0 (es ++ it .entry ∷ [])) size (tiles-more bs es at (it .entry) (so-far .1) (it .entered)), tally),
+      (es ++ it .entry ∷ [], walked, tally),
     )

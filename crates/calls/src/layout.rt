@@ -20,39 +20,39 @@ use crate::command::Session;
 // No command has more fields.
 pub const MAX_FIELDS: usize = 4;
 
-// How many fields a record of each kind has; no kind is 0.
+// How many fields a record of each kind has.
 const FIELD_COUNTS: [u8; 31] = [
     0, // no kind
-    1,
-    1,
-    1,
-    1,
-    2,
-    2,
-    2,
-    2,
-    1,
-    3,
-    1,
-    3,
-    3,
-    4,
-    4,
-    1,
-    1, // directory
-    2,
-    2,
-    3,
-    3, // consent
-    2,
-    1,
-    2,
-    2,
-    3,
-    4,
-    4, // session
-    2,
-    3, // question
+    1, // 1 add user
+    1, // 2 delete user
+    1, // 3 add role
+    1, // 4 delete role
+    2, // 5 assign
+    2, // 6 deassign
+    2, // 7 add inheritance
+    2, // 8 delete inheritance
+    1, // 9 add plain object
+    3, // 10 add personal object
+    1, // 11 delete object
+    3, // 12 grant
+    3, // 13 revoke
+    4, // 14 grant private
+    4, // 15 revoke private
+    1, // 16 add owner
+    1, // 17 delete owner
+    2, // 18 offer
+    2, // 19 retract
+    3, // 20 give
+    3, // 21 withdraw
+    2, // 22 open session
+    1, // 23 end session
+    2, // 24 activate role
+    2, // 25 drop role
+    3, // 26 plain access
+    4, // 27 use
+    4, // 28 look
+    2, // 29 authorised
+    3, // 30 consent
 ];
 
 // How many fields a record of this kind has; none where there is no such kind.

@@ -1,5 +1,4 @@
 pub mod Questions
-pub mod Counts
 pub mod Words
 pub mod Framing
 pub mod Commanded

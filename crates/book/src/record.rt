@@ -18,6 +18,7 @@ use crate::types::Record;
 use calls::command::Command;
 use calls::layout::MAX_FIELDS;
 use calls::layout::field_count;
+use calls::layout::fields_of;
 
 // The words that these bytes make up, in an array with room for the fields of any command.
 fn words_of(count: usize, bytes: &[u8]) -> [u16; MAX_FIELDS]
@@ -70,7 +71,7 @@ impl<'a> Record<'a> {
     pub fn size(&self) -> usize
         ensures { λ r. ⌜ r ≡ sizeOf (now (self .entry)) ⌝ }
     {
-        HEADER + 2 * field_count(self.kind()).unwrap_or(0)
+        HEADER + 2 * fields_of(self.kind())
     }
 
     fn is_whole(&self) -> bool

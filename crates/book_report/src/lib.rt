@@ -17,7 +17,7 @@ use book::types::Fault;
 use book::types::Reading;
 use book::types::Tally;
 use calls::command::Family;
-use calls::layout::field_count;
+use calls::layout::fields_of;
 use lines::bad_line;
 use lines::command_line;
 use lines::count_line;
@@ -49,7 +49,7 @@ impl Site {
         ensures { λ r. ⌜ r ≡ siteOf size place (now (rest .entry)) ⌝ }
     {
         let kind = word_or_zero(rest, 2);
-        let due = 6 + 2 * field_count(kind).unwrap_or(0);
+        let due = 6 + 2 * fields_of(kind);
         Site {
             size,
             place,

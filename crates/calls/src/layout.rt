@@ -55,7 +55,25 @@ const FIELD_COUNTS: [u8; 31] = [
     3, // 30 consent
 ];
 
-// How many fields a record of this kind has; none where there is no such kind.
+fn count_at(kind: u16) -> u8
+    requires { ⌜ kind ≤ 30 ⌝ }
+    ensures { λ r. ⌜ r ≡ fieldCount kind ⌝ }
+{
+    FIELD_COUNTS[kind as usize]
+}
+
+// How many fields a record of this kind has; 0 where there is no such kind.
+pub fn fields_of(kind: u16) -> usize
+    ensures value { λ r. ⌜ r ≡ fieldCount kind ⌝ }
+    ensures few { λ r. ⌜ r ≤ 4 ⌝ }
+{
+    if kind > 30 {
+        return 0;
+    }
+    count_at(kind) as usize
+}
+
+// The same, with none where there is no such kind.
 pub fn field_count(kind: u16) -> Option<usize>
     ensures value { λ r. ⌜ r ≡ cond (known kind) (Some (fieldCount kind)) None ⌝ }
     ensures few { λ r. ⌜ made r (λ n. n ≤ 4) ⌝ }
@@ -63,7 +81,7 @@ pub fn field_count(kind: u16) -> Option<usize>
     if kind == 0 || kind > 30 {
         return None;
     }
-    Some(FIELD_COUNTS[kind as usize] as usize)
+    Some(fields_of(kind))
 }
 
 impl Family {

@@ -25,32 +25,34 @@ abbrev pub layerName : Layer → List ℕ
 layerName Register = codes "register"
 layerName Kernel = codes "kernel"
 
+-- the place and the kind, with which the line of a record begins
+abbrev pub recordHead : ℕ → ℕ → List ℕ
+recordHead place kind = decimal place ++ codes " " ++ decimal kind ++ codes " "
+
 abbrev pub okLine : ℕ → ℕ → List ℕ
-okLine place kind = decimal place ++ (codes " " ++ (decimal kind ++ (codes " " ++ (codes "ok" ++ codes "\n"))))
+okLine place kind = recordHead place kind ++ codes "ok" ++ codes "\n"
 
 abbrev pub noLine : ℕ → ℕ → Layer → ℕ → List ℕ
-noLine place kind layer number =
-    decimal place ++ (codes " " ++ (decimal kind ++ (codes " " ++ (codes "no" ++ (codes " " ++ (layerName layer ++ (codes " " ++ (decimal number ++ codes "\n"))))))))
+noLine place kind layer number = recordHead place kind ++ codes "no" ++ codes " " ++ layerName layer ++ codes " " ++ decimal number ++ codes "\n"
 
 abbrev pub answerLine : ℕ → ℕ → Outcome → List ℕ
 answerLine place kind Accepted = okLine place kind
 answerLine place kind (Refused layer number) = noLine place kind layer number
 
 abbrev pub endLine : ℕ → List ℕ
-endLine size = codes "end" ++ (codes " " ++ (decimal size ++ codes "\n"))
+endLine size = codes "end" ++ codes " " ++ decimal size ++ codes "\n"
 
 abbrev pub badLine : ℕ → Fault → List ℕ
-badLine place fault = codes "bad" ++ (codes " " ++ (decimal place ++ (codes " " ++ (decimal (faultNumber fault) ++ codes "\n"))))
+badLine place fault = codes "bad" ++ codes " " ++ decimal place ++ codes " " ++ decimal (faultNumber fault) ++ codes "\n"
 
--- each field behind a space, and the end of the line
-abbrev pub fieldsText : List ℕ → List ℕ
-fieldsText [] = codes "\n"
-fieldsText (w ∷ ws) = codes " " ++ (decimal w ++ fieldsText ws)
+-- these bytes, and behind them each field behind a space
+abbrev pub withFields : List ℕ → List ℕ → List ℕ
+withFields line [] = line
+withFields line (w ∷ ws) = withFields (line ++ codes " " ++ decimal w) ws
 
 -- a command at its place: its kind, its name and its fields
 abbrev pub commandLine : ℕ → Command → List ℕ
-commandLine place c =
-    decimal place ++ (codes " " ++ (decimal (layout c .kind) ++ (codes " " ++ (commandName c ++ fieldsText (layout c .fields)))))
+commandLine place c = withFields (recordHead place (layout c .kind) ++ commandName c) (layout c .fields) ++ codes "\n"
 
 abbrev pub familyName : Family → List ℕ
 familyName family.Directory = codes "directory"
@@ -60,4 +62,4 @@ familyName family.Question = codes "question"
 
 -- how many records of a family there are
 abbrev pub countLine : Family → ℕ → List ℕ
-countLine f n = familyName f ++ (codes " " ++ (decimal n ++ codes "\n"))
+countLine f n = familyName f ++ codes " " ++ decimal n ++ codes "\n"

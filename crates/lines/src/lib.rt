@@ -2,10 +2,9 @@
 ghost use mathlib.Core.Path.{_≡_};
 ghost use mathlib.Core.List.{[], _++_};
 ghost use Prim.Native.Nat.{ℕ, _+_, _≤_};
-ghost use lib.Chars.{codes};
 ghost use lib.ListN.{length};
 ghost use Rattle.std.specs.Written.{decimal};
-ghost use Rattle.lines.specs.Lines.{text, layerName, okLine, noLine, answerLine, endLine, badLine, commandLine, familyName, countLine};
+ghost use Rattle.lines.specs.Lines.{text, layerName, recordHead, okLine, noLine, answerLine, endLine, badLine, commandLine, familyName, countLine};
 use book::types::Fault;
 use book::types::Layer;
 use book::types::Outcome;
@@ -73,7 +72,7 @@ impl Line {
 
 // "PLACE KIND ", with which the line of a record begins
 fn record_head(place: usize, kind: u16) -> Line
-    ensures text { λ r. ⌜ text r ≡ decimal place ++ (codes " " ++ (decimal kind ++ codes " ")) ⌝ }
+    ensures text { λ r. ⌜ text r ≡ recordHead place kind ⌝ }
     ensures len { λ r. ⌜ r .len ≤ 42 ⌝ }
 {
     let mut line = Line::empty();

@@ -13,7 +13,7 @@ use Rattle.std.specs.declared.option.Option.{Option}
 use Rattle.std.specs.declared.option.Option.the-variants.{Some, None}
 use Rattle.calls.specs.Layout.{layout, laid, known, fieldCount}
 use Rattle.calls.specs.declared.command.Command.{Command}
-use Rattle.calls.proofs.Counted.{layout-counts}
+use Rattle.calls.proofs.Told.{layout-counts}
 use Rattle.book.specs.Format.{wordBytes}
 use Rattle.book.specs.Handed.{kindOf, bytesOf}
 use Rattle.book.specs.Commanded.{Asks, isWhole}

@@ -12,8 +12,7 @@ use Rattle.std.proofs.shelf.Lists.{take-at, drop-at, drop-drop}
 use Rattle.std.proofs.shelf.Tests.{and-parts, eqb-true, both-ways, cases-lt}
 use Rattle.calls.specs.Layout.{Layout, layout, laid, known, fieldCount, familyOf}
 use Rattle.calls.specs.declared.command.Command.{Command}
-use Rattle.calls.proofs.Counted.{layout-counts}
-use Rattle.calls.proofs.Told.{same-command}
+use Rattle.calls.proofs.Told.{layout-counts, same-command}
 use Rattle.book.specs.Format.{wordBytes, recordBytes}
 use Rattle.book.specs.Reading.{Found, found, reading, isRecord}
 use Rattle.book.specs.Framing.{Stands}

@@ -1,4 +1,3 @@
-pub mod Counted
 mod Few
 pub mod Known
 mod Spelled

@@ -1,11 +1,11 @@
--- A command is told by its kind and its fields: two commands of one layout are the same.
+-- A command is told by its kind and its fields, and the table of field counts agrees with the layout of every command.
 use mathlib.Core.Path.{_≡_, refl, sym, ap, _∙_}
 use mathlib.Core.List.{List, [], _∷_}
-use mathlib.Core.Bool.{cond}
+use mathlib.Core.Bool.{Bool, true, cond, _&&_}
 use Prim.Native.Nat.{ℕ}
 use lib.Dec.{eqb}
-use lib.ListN.{getD}
-use Rattle.calls.specs.Layout.{Layout, layout, directoryLayout, consentLayout, sessionLayout, questionLayout}
+use lib.ListN.{length, getD}
+use Rattle.calls.specs.Layout.{Layout, layout, directoryLayout, consentLayout, sessionLayout, questionLayout, known, fieldCount}
 use Rattle.calls.specs.declared.command.Command.{Command}
 use Rattle.calls.specs.declared.command.Command.the-variants as command
 use Rattle.calls.specs.declared.command.Directory.{Directory}
@@ -16,6 +16,10 @@ use Rattle.calls.specs.declared.command.Session.{Session}
 use Rattle.calls.specs.declared.command.Session.the-variants.{Open, End, ActivateRole, DropRole, AccessPlain, Use, Look}
 use Rattle.calls.specs.declared.command.Question.{Question}
 use Rattle.calls.specs.declared.command.Question.the-variants.{Authorised, Consented}
+
+-- a known kind with as many fields as the table says
+abbrev pub counts : Layout → Bool
+counts l = known (l .kind) && eqb (length (l .fields)) (fieldCount (l .kind))
 
 -- the command of a layout, if any command has it
 abbrev commandOf : Layout → Command
@@ -53,49 +57,52 @@ commandOf l =
     (cond (eqb k 29) (command.Question (Authorised (w 0) (w 1)))
     (command.Question (Consented (w 0) (w 1) (w 2)))))))))))))))))))))))))))))))
 
-directory-back : (c : Directory) → commandOf (directoryLayout c) ≡ command.Directory c
-directory-back (AddUser a) = refl
-directory-back (DeleteUser a) = refl
-directory-back (AddRole a) = refl
-directory-back (DeleteRole a) = refl
-directory-back (Assign a b) = refl
-directory-back (Deassign a b) = refl
-directory-back (AddInheritance a b) = refl
-directory-back (DeleteInheritance a b) = refl
-directory-back (AddPlainObject a) = refl
-directory-back (AddPersonalObject a b c) = refl
-directory-back (DeleteObject a) = refl
-directory-back (GrantPlain a b c) = refl
-directory-back (RevokePlain a b c) = refl
-directory-back (GrantPrivate a b c d) = refl
-directory-back (RevokePrivate a b c d) = refl
-directory-back (AddOwner a) = refl
-directory-back (DeleteOwner a) = refl
+directory-told : (c : Directory) → (commandOf (directoryLayout c) ≡ command.Directory c) × (counts (directoryLayout c) ≡ true)
+directory-told (AddUser a) = (refl, refl)
+directory-told (DeleteUser a) = (refl, refl)
+directory-told (AddRole a) = (refl, refl)
+directory-told (DeleteRole a) = (refl, refl)
+directory-told (Assign a b) = (refl, refl)
+directory-told (Deassign a b) = (refl, refl)
+directory-told (AddInheritance a b) = (refl, refl)
+directory-told (DeleteInheritance a b) = (refl, refl)
+directory-told (AddPlainObject a) = (refl, refl)
+directory-told (AddPersonalObject a b c) = (refl, refl)
+directory-told (DeleteObject a) = (refl, refl)
+directory-told (GrantPlain a b c) = (refl, refl)
+directory-told (RevokePlain a b c) = (refl, refl)
+directory-told (GrantPrivate a b c d) = (refl, refl)
+directory-told (RevokePrivate a b c d) = (refl, refl)
+directory-told (AddOwner a) = (refl, refl)
+directory-told (DeleteOwner a) = (refl, refl)
 
-consent-back : (c : Consent) → commandOf (consentLayout c) ≡ command.Consent c
-consent-back (Offer a b) = refl
-consent-back (Retract a b) = refl
-consent-back (Give a b c) = refl
-consent-back (Withdraw a b c) = refl
+consent-told : (c : Consent) → (commandOf (consentLayout c) ≡ command.Consent c) × (counts (consentLayout c) ≡ true)
+consent-told (Offer a b) = (refl, refl)
+consent-told (Retract a b) = (refl, refl)
+consent-told (Give a b c) = (refl, refl)
+consent-told (Withdraw a b c) = (refl, refl)
 
-session-back : (c : Session) → commandOf (sessionLayout c) ≡ command.Session c
-session-back (Open a b) = refl
-session-back (End a) = refl
-session-back (ActivateRole a b) = refl
-session-back (DropRole a b) = refl
-session-back (AccessPlain a b c) = refl
-session-back (Use a b c d) = refl
-session-back (Look a b c d) = refl
+session-told : (c : Session) → (commandOf (sessionLayout c) ≡ command.Session c) × (counts (sessionLayout c) ≡ true)
+session-told (Open a b) = (refl, refl)
+session-told (End a) = (refl, refl)
+session-told (ActivateRole a b) = (refl, refl)
+session-told (DropRole a b) = (refl, refl)
+session-told (AccessPlain a b c) = (refl, refl)
+session-told (Use a b c d) = (refl, refl)
+session-told (Look a b c d) = (refl, refl)
 
-question-back : (c : Question) → commandOf (questionLayout c) ≡ command.Question c
-question-back (Authorised a b) = refl
-question-back (Consented a b c) = refl
+question-told : (c : Question) → (commandOf (questionLayout c) ≡ command.Question c) × (counts (questionLayout c) ≡ true)
+question-told (Authorised a b) = (refl, refl)
+question-told (Consented a b c) = (refl, refl)
 
-back : (c : Command) → commandOf (layout c) ≡ c
-back (command.Directory c) = directory-back c
-back (command.Consent c) = consent-back c
-back (command.Session c) = session-back c
-back (command.Question c) = question-back c
+told : (c : Command) → (commandOf (layout c) ≡ c) × (counts (layout c) ≡ true)
+told (command.Directory c) = directory-told c
+told (command.Consent c) = consent-told c
+told (command.Session c) = session-told c
+told (command.Question c) = question-told c
 
 pub same-command : (c d : Command) → layout c ≡ layout d → c ≡ d
-same-command c d e = sym (back c) ∙ ap commandOf e ∙ back d
+same-command c d e = sym (told c .0) ∙ ap commandOf e ∙ told d .0
+
+pub layout-counts : (c : Command) → counts (layout c) ≡ true
+layout-counts c = told c .1

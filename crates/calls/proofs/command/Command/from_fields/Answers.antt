@@ -1,8 +1,7 @@
 use mathlib.Core.Path.{sym, ap, _∙_}
 use Rattle.std.specs.declared.option.Option.the-variants.{Some}
-use Rattle.calls.proofs.Counted.{counts, layout-counts}
 use Rattle.calls.proofs.Spelled.{spelled}
-use Rattle.calls.proofs.Told.{same-command}
+use Rattle.calls.proofs.Told.{counts, layout-counts, same-command}
 use Rattle.calls.proofs.command.Command.from_fields.Needs as need
 
 pub returns : need.returns

@@ -10,7 +10,6 @@ use Rattle.std.proofs.shelf.Lists.{drop-at, drop-drop, set-append-right}
 use Rattle.calls.specs.Layout.{known, fieldCount}
 use Rattle.book.specs.Format.{word, answered}
 use Rattle.book.specs.Reading.{Found, ends, faulty, found, reading}
-use Rattle.book.specs.declared.types.Fault.the-variants.{TooLarge, BadLength, UnknownKind, WrongFieldCount}
 use Rattle.book.specs.Tiling.{Entry, entryBytes, bookBytes, Tiles, Answers-alone}
 use Rattle.book.proofs.Words.{word-drop}
 use Rattle.book.proofs.Tiling.{bookBytes-append}
@@ -18,13 +17,13 @@ use Rattle.book.proofs.Tiling.{bookBytes-append}
 -- a reading by the book's length, the two words that it looks at, and the bytes behind the answer field
 abbrev readingBy : ℕ → ℕ → ℕ → ℕ → List ℕ → Found
 readingBy n at size kind rest =
-    cond (ltb 65536 n) (faulty TooLarge)
+    cond (ltb 65536 n) (faulty 20)
     (cond (leb n at) ends
-    (cond (ltb (n - at) 6) (faulty BadLength)
-    (cond (ltb size 6) (faulty BadLength)
-    (cond (ltb (n - at) size) (faulty BadLength)
-    (cond (not (known kind)) (faulty UnknownKind)
-    (cond (not (eqb size (6 + 2 * fieldCount kind))) (faulty WrongFieldCount)
+    (cond (ltb (n - at) 6) (faulty 21)
+    (cond (ltb size 6) (faulty 21)
+    (cond (ltb (n - at) size) (faulty 21)
+    (cond (not (known kind)) (faulty 22)
+    (cond (not (eqb size (6 + 2 * fieldCount kind))) (faulty 23)
     (found kind (take (size - 6) rest))))))))
 
 -- what stands at a place depends only on the book's length and on the bytes from there on

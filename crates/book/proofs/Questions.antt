@@ -10,7 +10,6 @@ use Rattle.std.proofs.shelf.Tests.{cond-false, le-ltb, lt-leb, eq-eqb, ltb-fals
 use Rattle.calls.specs.Layout.{known, fieldCount}
 use Rattle.book.specs.Format.{word}
 use Rattle.book.specs.Reading.{Found, ends, faulty, found, fieldsAt, reading}
-use Rattle.book.specs.declared.types.Fault.{Fault}
 
 -- a record stands whole at the byte at
 pub record Passes (bs : List ℕ) (at : ℕ) : Type 0 where
@@ -36,7 +35,7 @@ past : {A : Type 0} (b : Bool) {x y z : A} → cond b x y ≡ z → (x ≡ z →
 past true e other = absurd (other e)
 past false e other = (refl, e)
 
-no-fault : {k : ℕ} {fs : List ℕ} (f : Fault) → faulty f ≡ found k fs → ⊥
+no-fault : {k : ℕ} {fs : List ℕ} (f : ℕ) → faulty f ≡ found k fs → ⊥
 no-fault f e = let z : _≡_ {A = ℕ} 0 1 = cc in omega arith
 
 no-end : {k : ℕ} {fs : List ℕ} → ends ≡ found k fs → ⊥

@@ -8,6 +8,7 @@ use Rattle.std.specs.declared.option.Option.the-variants.{Some}
 use Rattle.calls.specs.Layout.{familyOfKind, fieldCount, known}
 use Rattle.calls.specs.declared.command.Family.{Family}
 use Rattle.calls.specs.declared.command.Family.the-variants as family
+use Rattle.book.specs.Numbers.{faultNumber}
 use Rattle.book.specs.Reading.{Found, ends, faulty, found}
 use Rattle.book.specs.declared.types.Reading.{Reading}
 use Rattle.book.specs.declared.types.Reading.the-variants.{End, Bad, Record}
@@ -41,7 +42,7 @@ familyOf (Question p k f) = family.Question
 -- what a reader's result says of the book
 abbrev pub seen : Reading → Found
 seen End = ends
-seen (Bad f) = faulty f
+seen (Bad f) = faulty (faultNumber f)
 seen (Record x) = found (kindOf x) (bytesOf x)
 
 -- how many bytes the whole record takes

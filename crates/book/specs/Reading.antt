@@ -6,13 +6,11 @@ use lib.Dec.{eqb, ltb, leb}
 use lib.ListN.{length, take, drop}
 use Rattle.calls.specs.Layout.{known, fieldCount}
 use Rattle.book.specs.Format.{word}
-use Rattle.book.specs.declared.types.Fault.{Fault}
-use Rattle.book.specs.declared.types.Fault.the-variants.{TooLarge, BadLength, UnknownKind, WrongFieldCount}
 
--- the end of the book, a fault, or a record with its kind and its field bytes
+-- the end of the book, a fault by its number, or a record with its kind and its field bytes
 pub data Found : Type 0 where
   ends : Found
-  faulty : Fault → Found
+  faulty : ℕ → Found
   found : ℕ → List ℕ → Found
 
 -- the field bytes of the record that begins at the byte at
@@ -22,13 +20,13 @@ fieldsAt bs at = take (word bs at - 6) (drop (at + 6) bs)
 -- what stands at the byte at
 abbrev pub reading : List ℕ → ℕ → Found
 reading bs at =
-    cond (ltb 65536 (length bs)) (faulty TooLarge)
+    cond (ltb 65536 (length bs)) (faulty 20)
     (cond (leb (length bs) at) ends
-    (cond (ltb (length bs - at) 6) (faulty BadLength)
-    (cond (ltb (word bs at) 6) (faulty BadLength)
-    (cond (ltb (length bs - at) (word bs at)) (faulty BadLength)
-    (cond (not (known (word bs (at + 2)))) (faulty UnknownKind)
-    (cond (not (eqb (word bs at) (6 + 2 * fieldCount (word bs (at + 2))))) (faulty WrongFieldCount)
+    (cond (ltb (length bs - at) 6) (faulty 21)
+    (cond (ltb (word bs at) 6) (faulty 21)
+    (cond (ltb (length bs - at) (word bs at)) (faulty 21)
+    (cond (not (known (word bs (at + 2)))) (faulty 22)
+    (cond (not (eqb (word bs at) (6 + 2 * fieldCount (word bs (at + 2))))) (faulty 23)
     (found (word bs (at + 2)) (fieldsAt bs at))))))))
 
 abbrev pub isRecord : Found → Bool

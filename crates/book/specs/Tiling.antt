@@ -9,6 +9,7 @@ use Rattle.calls.specs.declared.command.Command.{Command}
 use Rattle.calls.specs.declared.command.Family.{Family}
 use Rattle.calls.specs.declared.command.Family.the-variants as family
 use Rattle.book.specs.Format.{recordBytes}
+use Rattle.book.specs.Numbers.{faultNumber}
 use Rattle.book.specs.Reading.{Found, ends, faulty, reading, isRecord}
 use Rattle.book.specs.declared.types.Ending.{Ending}
 use Rattle.book.specs.declared.types.Ending.the-variants.{End, Bad}
@@ -53,7 +54,7 @@ stopPlace (Bad p f) = p
 
 abbrev pub stopFound : Ending → Found
 stopFound (End n) = ends
-stopFound (Bad p f) = faulty f
+stopFound (Bad p f) = faulty (faultNumber f)
 
 -- the reading of the book bs stops at the byte to: no record stands there, and of a book that is too large nothing
 -- was read

@@ -32,7 +32,7 @@ impl TypeSet {
     pub fn bits(self) -> u16
         ensures { λ r. ⌜ r ≡ self .bits ⌝ }
     {
-        self.bits
+        self.bits // the bit worth 2^n tells of member n
     }
 
     pub fn contains(self, n: u16) -> bool

@@ -69,7 +69,7 @@ impl<K> WideSet<K> {
     pub fn bits(self) -> u64
         ensures { λ r. ⌜ r ≡ self .bits ⌝ }
     {
-        self.bits
+        self.bits // the bit worth 2^n tells of member n
     }
 
     pub fn contains(self, n: u16) -> bool

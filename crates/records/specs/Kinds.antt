@@ -1,5 +1,6 @@
 -- When two records are the same, and which things a record names.
 use mathlib.Core.Bool.{Bool, false, _&&_}
+use Prim.Native.Nat.{ℕ}
 use lib.Dec.{eqb}
 use Rattle.records.specs.declared.kinds.Consent.{Consent}
 use Rattle.records.specs.declared.kinds.PlainGrant.{PlainGrant}
@@ -17,18 +18,18 @@ samePrivate x y = eqb (x .operation) (y .operation) && (eqb (x .object) (y .obje
 abbrev pub sameConsent : Consent → Consent → Bool
 sameConsent x y = eqb (x .owner) (y .owner) && (eqb (x .purpose) (y .purpose) && eqb (x .«data_type») (y .«data_type»))
 
--- a grant names its role and its object
+-- a grant names its object and its role
+abbrev pub namesGrant : ℕ → ℕ → Thing → Bool
+namesGrant object role (Role r) = eqb r role
+namesGrant object role (Object b) = eqb b object
+namesGrant object role (Owner o) = false
+namesGrant object role (Pair q t) = false
+
 abbrev pub namesPlain : PlainGrant → Thing → Bool
-namesPlain x (Role r) = eqb (x .role) r
-namesPlain x (Object b) = eqb (x .object) b
-namesPlain x (Owner o) = false
-namesPlain x (Pair q t) = false
+namesPlain x thing = namesGrant (x .object) (x .role) thing
 
 abbrev pub namesPrivate : PrivateGrant → Thing → Bool
-namesPrivate x (Role r) = eqb (x .role) r
-namesPrivate x (Object b) = eqb (x .object) b
-namesPrivate x (Owner o) = false
-namesPrivate x (Pair q t) = false
+namesPrivate x thing = namesGrant (x .object) (x .role) thing
 
 -- a consent names its owner and its pair of purpose and data type
 abbrev pub namesConsent : Consent → Thing → Bool

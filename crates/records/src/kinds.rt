@@ -1,7 +1,7 @@
 // The three kinds of records: plain grants, private grants and consents.
 ghost use mathlib.Core.Path.{_≡_};
 ghost use Rattle.std.specs.Orderings.{Decides};
-ghost use Rattle.records.specs.Kinds.{samePlain, namesPlain, samePrivate, namesPrivate, sameConsent, namesConsent};
+ghost use Rattle.records.specs.Kinds.{samePlain, namesPlain, samePrivate, namesPrivate, namesGrant, sameConsent, namesConsent};
 use crate::record::Record;
 use crate::record::Thing;
 
@@ -30,6 +30,17 @@ pub struct Consent {
     pub data_type: u16,
 }
 
+fn grant_names(object: u16, role: u16, thing: Thing) -> bool
+    ensures { λ r. ⌜ r ≡ namesGrant object role thing ⌝ }
+{
+    match thing {
+        Thing::Role(named) => named == role,
+        Thing::Object(named) => named == object,
+        Thing::Owner(_) => false,
+        Thing::Pair { .. } => false,
+    }
+}
+
 pub impl Record for PlainGrant as PlainGrantRecord {
     ghost equal = { samePlain };
 
@@ -43,12 +54,7 @@ pub impl Record for PlainGrant as PlainGrantRecord {
     }
 
     fn names(&self, thing: Thing) -> bool {
-        match thing {
-            Thing::Role(role) => self.role == role,
-            Thing::Object(object) => self.object == object,
-            Thing::Owner(_) => false,
-            Thing::Pair { .. } => false,
-        }
+        grant_names(self.object, self.role, thing)
     }
 }
 
@@ -68,12 +74,7 @@ pub impl Record for PrivateGrant as PrivateGrantRecord {
     }
 
     fn names(&self, thing: Thing) -> bool {
-        match thing {
-            Thing::Role(role) => self.role == role,
-            Thing::Object(object) => self.object == object,
-            Thing::Owner(_) => false,
-            Thing::Pair { .. } => false,
-        }
+        grant_names(self.object, self.role, thing)
     }
 }
 

@@ -20,15 +20,18 @@ pub record Passes (bs : List ℕ) (at : ℕ) : Type 0 where
   pub kind-known : known (word bs (at + 2)) ≡ true
   pub counted : word bs at ≡ 6 + 2 * fieldCount (word bs (at + 2))
 
-pub passes-found : {bs : List ℕ} {at : ℕ} → Passes bs at → reading bs at ≡ found (word bs (at + 2)) (fieldsAt bs at)
-passes-found {bs} {at} p =
-    cond-false _ _ _ (le-ltb 65536 (length bs) (p .small))
+-- up to the last question
+pub known-reading : (bs : List ℕ) (at : ℕ) → length bs ≤ 65536 → at + 6 ≤ length bs → 6 ≤ word bs at → at + word bs at ≤ length bs → known (word bs (at + 2)) ≡ true → reading bs at ≡ cond (not (eqb (word bs at) (6 + 2 * fieldCount (word bs (at + 2))))) (faulty 23) (found (word bs (at + 2)) (fieldsAt bs at))
+known-reading bs at small within long fits is-known =
+    cond-false _ _ _ (le-ltb 65536 (length bs) small)
     ∙ cond-false _ _ _ (lt-leb (length bs) at (omega arith))
     ∙ cond-false _ _ _ (le-ltb (length bs - at) 6 (omega arith))
-    ∙ cond-false _ _ _ (le-ltb (word bs at) 6 (p .long))
+    ∙ cond-false _ _ _ (le-ltb (word bs at) 6 long)
     ∙ cond-false _ _ _ (le-ltb (length bs - at) (word bs at) (omega arith))
-    ∙ cond-false _ _ _ (not-from-true _ (p .kind-known))
-    ∙ cond-false _ _ _ (not-from-true _ (eq-eqb _ _ (p .counted)))
+    ∙ cond-false _ _ _ (not-from-true _ is-known)
+
+pub passes-found : {bs : List ℕ} {at : ℕ} → Passes bs at → reading bs at ≡ found (word bs (at + 2)) (fieldsAt bs at)
+passes-found {bs} {at} p = known-reading bs at (p .small) (p .within) (p .long) (p .fits) (p .kind-known) ∙ cond-false _ _ _ (not-from-true _ (eq-eqb _ _ (p .counted)))
 
 -- past a question whose no is something else
 past : {A : Type 0} (b : Bool) {x y z : A} → cond b x y ≡ z → (x ≡ z → ⊥) → (b ≡ false) × (y ≡ z)

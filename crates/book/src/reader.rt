@@ -10,7 +10,7 @@ use crate::types::Fault;
 use crate::types::Reading;
 use crate::types::Record;
 use calls::command::Family;
-use calls::layout::field_count;
+use calls::layout::fields_of;
 
 // The largest book, in bytes.
 pub const MAX_LEN: usize = 65_536;
@@ -80,15 +80,12 @@ fn ask(book: &[u8], at: usize) -> Reading<'_>
         return Reading::Bad(Fault::BadLength);
     }
     let kind = word_at(book, at + 2);
-    let Some(count) = field_count(kind) else {
-        return Reading::Bad(Fault::UnknownKind);
-    };
-    if size != HEADER + 2 * count {
-        return Reading::Bad(Fault::WrongFieldCount);
-    }
     let Some(family) = Family::of(kind) else {
         return Reading::Bad(Fault::UnknownKind);
     };
+    if size != HEADER + 2 * fields_of(kind) {
+        return Reading::Bad(Fault::WrongFieldCount);
+    }
     Reading::Record(Record::of(family, at, kind, &book[at + HEADER..at + size]))
 }
 

@@ -3,13 +3,33 @@ use Prim.Native.Nat.{_+_, _-_, _*_}
 use native.Mathlib.Omega.{arith}
 use lib.ListN.{length, take, drop}
 use Rattle.std.proofs.shelf.Lists.{length-take, length-drop}
+use Rattle.std.proofs.shelf.Tests.{cond-true, ne-eqb, not-from-false}
+use Rattle.std.specs.Options.{isSome}
 use Rattle.std.specs.declared.option.Option.the-variants.{Some}
 use Rattle.calls.specs.Layout.{known, fieldCount, familyOfKind}
-use Rattle.calls.proofs.Known.{counted-known}
+use Rattle.calls.proofs.Known.{known-family}
 use Rattle.book.specs.Format.{word}
 use Rattle.book.specs.Reading.{found, fieldsAt}
-use Rattle.book.proofs.Questions.{Passes, passes-found}
+use Rattle.book.proofs.Questions.{Passes, known-reading, passes-found}
 use Rattle.book.proofs.reader.ask.Needs as need
+
+pub returns-then-size-fields-of : need.returns-then-size-fields-of
+returns-then-size-fields-of c =
+    let bs = c .args .book .now in
+    let at = c .args .at in
+    let size = c .word-at-size .ensures in
+    let kind = c .word-at-kind .ensures in
+    let is-known = ap known (sym kind) ∙ known-family (c .word-at-kind .result) ∙ sym (ap isSome (c .in-Some .ensures tt)) in
+    let other : word bs at ≡ 6 + 2 * fieldCount (word bs (at + 2)) → ⊥ =
+    λ e. c .if-size-fields-of .taken (size ∙ e ∙ ap (λ k. 6 + 2 * fieldCount k) (sym kind) ∙ omega (arith, c .fields-of .ensures .value))
+    in
+    record {
+      reads =
+          sym
+          (known-reading bs at (omega arith) (omega arith) (omega (arith, size)) (omega (arith, size)) is-known
+          ∙ cond-true _ _ _ (not-from-false _ (ne-eqb _ _ other)));
+      filed = tt;
+    }
 
 pub returns : need.returns
 returns c =
@@ -17,15 +37,16 @@ returns c =
     let at = c .args .at in
     let size = c .word-at-size .ensures in
     let kind = c .word-at-kind .ensures in
-    let counts = counted-known (c .word-at-kind .result) (c .in-Some .count) (c .in-Some .ensures tt .value) in
+    let family = c .in-Some .ensures tt in
+    let is-known = known-family (c .word-at-kind .result) ∙ sym (ap isSome family) in
     let passes : Passes bs at =
     record {
       small = omega arith;
       within = omega arith;
       long = omega (arith, size);
       fits = omega (arith, size);
-      kind-known = ap known (sym kind) ∙ counts .0;
-      counted = sym size ∙ omega (arith, counts .1) ∙ ap (λ k. 6 + 2 * fieldCount k) kind;
+      kind-known = ap known (sym kind) ∙ is-known;
+      counted = sym size ∙ omega (arith, c .fields-of .ensures .value) ∙ ap (λ k. 6 + 2 * fieldCount k) kind;
     }
     in
     let r = c .of-2 .ensures in
@@ -38,7 +59,7 @@ returns c =
       filed =
           record {
             place = r .place;
-            family = ap familyOfKind (r .kind) ∙ sym (c .in-Some-of .ensures tt) ∙ ap Some (sym (r .family));
+            family = ap familyOfKind (r .kind) ∙ sym family ∙ ap Some (sym (r .family));
             kind-known = ap known is-kind ∙ passes .kind-known;
             counted = ap length is-fields ∙ simp (length-take, length-drop) (omega (arith, counted, passes .fits));
             inside = omega (arith, counted, passes .fits);

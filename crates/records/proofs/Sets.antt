@@ -58,6 +58,13 @@ module _ {T : Type 0} where
       (λ (e : q y ≡ false). simp e rest)
       (cases-bool (q y))
 
+  -- what a test keeps and what it drops are all there was
+  pub kept-and-dropped : (p : T → Bool) (xs : List T) → length (kept-by (λ y. not (p y)) xs) + length (kept-by p xs) ≡ length xs
+  kept-and-dropped p [] = refl
+  kept-and-dropped p (y ∷ ys) =
+      let rest = kept-and-dropped p ys in
+      ⊎-elim (λ (e : p y ≡ true). simp e (omega arith)) (λ (e : p y ≡ false). simp e (omega arith)) (cases-bool (p y))
+
   module _ (equal : T → T → Bool) where
     -- a filter leaves no repeats where there were none
     pub apart-kept : (q : T → Bool) (xs : List T) → apart equal xs ≡ true → apart equal (kept-by q xs) ≡ true

@@ -122,6 +122,7 @@ impl<'a, T: Record + Copy> RecordSet<'a, T> {
         ensures left { λ _. ⌜ records (now (self .exit)) ≡ kept-by (λ y. not (naming y thing)) (records (now (self .entry))) ⌝ }
         ensures room { λ _. ⌜ room (now (self .exit)) ≡ room (now (self .entry)) ⌝ }
         ensures apart { λ _. ⌜ (apart equal (records (now (self .entry))) ≡ true → apart equal (records (now (self .exit))) ≡ true) ⌝ }
+        ensures many { λ _. ⌜ length (records (now (self .exit))) + length (kept-by (λ y. naming y thing) (records (now (self .entry)))) ≡ length (records (now (self .entry))) ⌝ }
         ensures struck { λ _. ⌜ some (λ y. naming y thing) (records (now (self .exit))) ≡ false ⌝ }
     {
         self.keep_only(&Unnamed { thing });

@@ -1,0 +1,8 @@
+// Why a register refuses.
+#[derive(Clone, Copy, PartialEq, Eq, Debug)]
+pub enum RegisterFault {
+    OutOfRange,
+    AlreadyGiven,
+    NotGiven,
+    Full,
+}

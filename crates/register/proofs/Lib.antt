@@ -1,3 +1,4 @@
 pub mod Counts
 pub mod BitWords
 pub mod Sweeps
+pub mod Lists

@@ -1,3 +1,4 @@
 pub mod Meaning
 pub mod Answers
 pub mod BitMeaning
+pub mod ListMeaning

@@ -2,18 +2,12 @@
 ghost use mathlib.Core.Path.{_≡_};
 ghost use mathlib.Core.Bool.{false};
 ghost use Prim.Native.Nat.{ℕ, _+_, _*_, _<_};
-ghost use Rattle.register.specs.Meaning.{inRange};
 ghost use Rattle.register.specs.BitMeaning.{bitMeaning};
 use crate::bit_register::BitRegister;
 use crate::fault::RegisterFault;
+use crate::ranges::in_range;
 use crate::register::ConsentRegister;
 use bits::narrow::TypeSet;
-
-fn in_range(owner: u16, purpose: u16, data_type: u16) -> bool
-    ensures { λ r. ⌜ r ≡ inRange owner purpose «data_type» ⌝ }
-{
-    owner < 128 && purpose < 16 && data_type < 16
-}
 
 // Where the word of an owner and a purpose lies.
 fn word_of(owner: u16, purpose: u16) -> usize

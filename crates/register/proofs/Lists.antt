@@ -44,9 +44,9 @@ count-more p r zero k lt was is others = absurd (omega arith)
 count-more p r (suc n) k lt was is others =
     ⊎-elim
     (λ (here : k ≡ n).
-      let old : one (p n) ≡ 0 = ap (λ j. one (p j)) (sym here) ∙ ap one was in
-      let new : one (r n) ≡ 1 = ap (λ j. one (r j)) (sym here) ∙ ap one is in
-      omega (arith, count-same r p n (λ j below. others j (λ e. omega arith))))
+    let old : one (p n) ≡ 0 = ap (λ j. one (p j)) (sym here) ∙ ap one was in
+    let new : one (r n) ≡ 1 = ap (λ j. one (r j)) (sym here) ∙ ap one is in
+    omega (arith, count-same r p n (λ j below. others j (λ e. omega arith))))
     (λ (ne : k ≡ n → ⊥). omega (arith, count-more p r n k (omega arith) was is others, ap one (others n (λ e. ne (sym e)))))
     (cases-eq k n)
 
@@ -64,11 +64,11 @@ module _ (f : Consents) (o q t : ℕ) (q-in : q < 16) (t-in : t < 16) (new : f o
     where
       elsewhere : (j : ℕ) → j ≢ 16 * q + t → same o q t o (j / 16) (j % 16) ≡ false
       elsewhere j ne = ⊎-elim
-        (λ (yes′ : same o q t o (j / 16) (j % 16) ≡ true).
+          (λ (yes′ : same o q t o (j / 16) (j % 16) ≡ true).
           let inner = and-parts (eqb (j / 16) q) (eqb (j % 16) t) (and-parts (eqb o o) _ yes′ .1) in
           absurd (ne (omega (arith, eqb-true (j / 16) q (inner .0), eqb-true (j % 16) t (inner .1)))))
-        (λ no′. no′)
-        (cases-bool (same o q t o (j / 16) (j % 16)))
+          (λ no′. no′)
+          (cases-bool (same o q t o (j / 16) (j % 16)))
 
   pub owned-other : (a : ℕ) → a ≢ o → owned (putOne o q t true f) a ≡ owned f a
   unfolding owned putOne
@@ -115,17 +115,17 @@ holds-kept p (y ∷ ys) z =
     let rest = holds-kept p ys z in
     ⊎-elim
     (λ (same′ : sameConsent y z ≡ true).
-      let is : p y ≡ p z = ap p (same-consent y z same′) in
-      ⊎-elim
-      (λ (keep : p y ≡ true). simp keep (or-left (sameConsent y z) _ same′ ∙ sym (cond-true _ _ _ (sym is ∙ keep) ∙ or-left (sameConsent y z) _ same′)))
-      (λ (lose : p y ≡ false). simp lose (rest ∙ cond-false _ _ _ (sym is ∙ lose) ∙ sym (cond-false _ _ _ (sym is ∙ lose))))
-      (cases-bool (p y)))
+    let is : p y ≡ p z = ap p (same-consent y z same′) in
+    ⊎-elim
+    (λ (keep : p y ≡ true). simp keep (or-left (sameConsent y z) _ same′ ∙ sym (cond-true _ _ _ (sym is ∙ keep) ∙ or-left (sameConsent y z) _ same′)))
+    (λ (lose : p y ≡ false). simp lose (rest ∙ cond-false _ _ _ (sym is ∙ lose) ∙ sym (cond-false _ _ _ (sym is ∙ lose))))
+    (cases-bool (p y)))
     (λ (other : sameConsent y z ≡ false).
-      let skip : (sameConsent y z || holds sameConsent ys z) ≡ holds sameConsent ys z = ap (λ b. b || holds sameConsent ys z) other in
-      ⊎-elim
-      (λ (keep : p y ≡ true). simp keep (ap (λ b. b || holds sameConsent (kept-by p ys) z) other ∙ rest ∙ sym (ap (λ h. cond (p z) h false) skip)))
-      (λ (lose : p y ≡ false). simp lose (rest ∙ sym (ap (λ h. cond (p z) h false) skip)))
-      (cases-bool (p y)))
+    let skip : (sameConsent y z || holds sameConsent ys z) ≡ holds sameConsent ys z = ap (λ b. b || holds sameConsent ys z) other in
+    ⊎-elim
+    (λ (keep : p y ≡ true). simp keep (ap (λ b. b || holds sameConsent (kept-by p ys) z) other ∙ rest ∙ sym (ap (λ h. cond (p z) h false) skip)))
+    (λ (lose : p y ≡ false). simp lose (rest ∙ sym (ap (λ h. cond (p z) h false) skip)))
+    (cases-bool (p y)))
     (cases-bool (sameConsent y z))
 
 pub entries-kept : (p : Consent → Bool) (xs : List Consent) (a b c : ℕ) → entriesOf (kept-by p xs) a b c ≡ cond (p (consent a b c)) (entriesOf xs a b c) false
@@ -140,16 +140,16 @@ pub entries-push : (xs : List Consent) (o q t : ℕ) → entriesOf (xs ++ consen
 unfolding entriesOf putOne
 entries-push xs o q t =
     fun-ext (λ a. fun-ext (λ b. fun-ext (λ c.
-      some-push (λ y. sameConsent y (consent a b c)) xs (consent o q t)
-      ∙ or-last (holds sameConsent xs (consent a b c)) (sameConsent (consent o q t) (consent a b c))
-      ∙ ap (λ s. cond s true (holds sameConsent xs (consent a b c))) (turned o q t a b c))))
+    some-push (λ y. sameConsent y (consent a b c)) xs (consent o q t)
+    ∙ or-last (holds sameConsent xs (consent a b c)) (sameConsent (consent o q t) (consent a b c))
+    ∙ ap (λ s. cond s true (holds sameConsent xs (consent a b c))) (turned o q t a b c))))
 
 entries-cons : (x : Consent) (ys : List Consent) → entriesOf (x ∷ ys) ≡ putOne (x .owner) (x .purpose) (x .«data_type») true (entriesOf ys)
 unfolding entriesOf putOne
 entries-cons x ys =
     fun-ext (λ a. fun-ext (λ b. fun-ext (λ c.
-      or-as-cond (sameConsent x (consent a b c)) (holds sameConsent ys (consent a b c))
-      ∙ ap (λ s. cond s true (holds sameConsent ys (consent a b c))) (turned (x .owner) (x .purpose) (x .«data_type») a b c))))
+    or-as-cond (sameConsent x (consent a b c)) (holds sameConsent ys (consent a b c))
+    ∙ ap (λ s. cond s true (holds sameConsent ys (consent a b c))) (turned (x .owner) (x .purpose) (x .«data_type») a b c))))
 
 -- the first of a list lies in range, and what lies behind it too
 module _ (x : Consent) (ys : List Consent) (inside : Inside (x ∷ ys)) where
@@ -177,15 +177,15 @@ owner-count (x ∷ ys) a inside o =
     let is = ap (λ f. owned f o) (entries-cons x ys) in
     ⊎-elim
     (λ (here : o ≡ x .owner).
-      let more : owned (putOne (x .owner) (x .purpose) (x .«data_type») true (entriesOf ys)) o ≡ owned (entriesOf ys) o + 1 =
-        ap (owned _) here ∙ owned-put (entriesOf ys) (x .owner) (x .purpose) (x .«data_type») (within .purpose) (within .kind) new ∙ ap (λ n. owned (entriesOf ys) n + 1) (sym here)
-      in
-      let yes′ : eqb (x .owner) o ≡ true = eq-eqb (x .owner) o (sym here) in
-      simp yes′ (omega arith))
+    let more : owned (putOne (x .owner) (x .purpose) (x .«data_type») true (entriesOf ys)) o ≡ owned (entriesOf ys) o + 1 =
+    ap (owned _) here ∙ owned-put (entriesOf ys) (x .owner) (x .purpose) (x .«data_type») (within .purpose) (within .kind) new ∙ ap (λ n. owned (entriesOf ys) n + 1) (sym here)
+    in
+    let yes′ : eqb (x .owner) o ≡ true = eq-eqb (x .owner) o (sym here) in
+    simp yes′ (omega arith))
     (λ (ne : o ≡ x .owner → ⊥).
-      let as-before = owned-other (entriesOf ys) (x .owner) (x .purpose) (x .«data_type») (within .purpose) (within .kind) new o ne in
-      let no′ : eqb (x .owner) o ≡ false = ne-eqb (x .owner) o (λ e. ne (sym e)) in
-      simp no′ (omega arith))
+    let as-before = owned-other (entriesOf ys) (x .owner) (x .purpose) (x .«data_type») (within .purpose) (within .kind) new o ne in
+    let no′ : eqb (x .owner) o ≡ false = ne-eqb (x .owner) o (λ e. ne (sym e)) in
+    simp no′ (omega arith))
     (cases-eq o (x .owner))
 
 -- the sum of a function's values below n
@@ -209,8 +209,8 @@ sum-more f g zero k lt here others = absurd (omega arith)
 sum-more f g (suc n) k lt here others =
     ⊎-elim
     (λ (e : k ≡ n).
-      let last : g n ≡ f n + 1 = subst (λ j. g j ≡ f j + 1) e here in
-      omega (arith, sum-same g f n (λ j below. others j (λ i. omega arith))))
+    let last : g n ≡ f n + 1 = subst (λ j. g j ≡ f j + 1) e here in
+    omega (arith, sum-same g f n (λ j below. others j (λ i. omega arith))))
     (λ (ne : k ≡ n → ⊥). omega (arith, sum-more f g n k (omega arith) here others, others n (λ i. ne (sym i))))
     (cases-eq k n)
 
@@ -239,6 +239,7 @@ by-owners (x ∷ ys) inside =
   where
     here : length (kept-by (ofOwner (x .owner)) (x ∷ ys)) ≡ length (kept-by (ofOwner (x .owner)) ys) + 1
     here = let yes′ : eqb (x .owner) (x .owner) ≡ true = eq-eqb (x .owner) (x .owner) refl in simp yes′ (omega arith)
+
     others : (o : ℕ) → o ≢ x .owner → length (kept-by (ofOwner o) (x ∷ ys)) ≡ length (kept-by (ofOwner o) ys)
     others o ne = let no′ : eqb (x .owner) o ≡ false = ne-eqb (x .owner) o (λ e. ne (sym e)) in simp no′ refl
 

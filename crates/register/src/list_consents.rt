@@ -51,3 +51,68 @@ impl<'a> ListRegister<'a> {
         }
     }
 }
+
+pub impl<'a> ConsentRegister for ListRegister<'a> as ListConsents {
+    ghost meaning = { λ s. listMeaning (room (s .set)) (records (s .set)) };
+
+    fn stands(&self) {}
+
+    fn limit(&self) -> u16 {
+        (self.set.places() / 128).min(256) as u16
+    }
+
+    fn holds(&self, owner: u16, purpose: u16, data_type: u16) -> bool {
+        self.set.contains(
+            &Consent {
+                owner,
+                purpose,
+                data_type,
+            },
+        )
+    }
+
+    fn give(&mut self, owner: u16, purpose: u16, data_type: u16) -> Result<(), RegisterFault> {
+        if !in_range(owner, purpose, data_type) {
+            return Err(RegisterFault::OutOfRange);
+        }
+        let consent = Consent {
+            owner,
+            purpose,
+            data_type,
+        };
+        if self.set.contains(&consent) {
+            return Err(RegisterFault::AlreadyGiven);
+        }
+        let limit = (self.set.places() / 128).min(256);
+        if count_of(self.set.as_slice(), owner) >= limit {
+            return Err(RegisterFault::Full);
+        }
+        // It finds a place: the owner is under the limit.
+        let _ = self.set.add(consent);
+        Ok(())
+    }
+
+    fn withdraw(&mut self, owner: u16, purpose: u16, data_type: u16) -> Result<(), RegisterFault> {
+        if !in_range(owner, purpose, data_type) {
+            return Err(RegisterFault::OutOfRange);
+        }
+        match self.set.remove(
+            &Consent {
+                owner,
+                purpose,
+                data_type,
+            },
+        ) {
+            Ok(()) => Ok(()),
+            Err(_) => Err(RegisterFault::NotGiven),
+        }
+    }
+
+    fn erase(&mut self, owner: u16) {
+        self.set.strike(Thing::Owner(owner));
+    }
+
+    fn strike(&mut self, purpose: u16, data_type: u16) {
+        self.set.strike(Thing::Pair { purpose, data_type });
+    }
+}

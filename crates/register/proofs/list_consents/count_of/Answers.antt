@@ -19,12 +19,13 @@ loop-row-again c =
     let i = c .loop-row .row-index in
     let step = kept-at (ofOwner o) rows i (omega arith) in
     elim (c .if-row-owner .came) [
-      then-row-owner w ↦
-        let is : one (ofOwner o (getD rows i (consent 0 0 0))) ≡ 1 = ap one (eq-eqb _ o (w .if-row-owner .taken)) in
-        (omega (arith, w .n-is, c .loop-row .inv .0), omega (arith, w .n-is, step, c .loop-row .inv .1))
-    | else-row-owner w ↦
-        let is : one (ofOwner o (getD rows i (consent 0 0 0))) ≡ 0 = ap one (ne-eqb _ o (w .if-row-owner .left)) in
-        (omega (arith, w .n-is, c .loop-row .inv .0), omega (arith, w .n-is, step, c .loop-row .inv .1)) ]
+      | then-row-owner w ↦
+          let is : one (ofOwner o (getD rows i (consent 0 0 0))) ≡ 1 = ap one (eq-eqb _ o (w .if-row-owner .taken)) in
+          (omega (arith, w .n-is, c .loop-row .inv .0), omega (arith, w .n-is, step, c .loop-row .inv .1))
+      | else-row-owner w ↦
+          let is : one (ofOwner o (getD rows i (consent 0 0 0))) ≡ 0 = ap one (ne-eqb _ o (w .if-row-owner .left)) in
+          (omega (arith, w .n-is, c .loop-row .inv .0), omega (arith, w .n-is, step, c .loop-row .inv .1))
+    ]
 
 pub returns : need.returns
 returns c =

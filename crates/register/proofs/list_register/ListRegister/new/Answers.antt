@@ -12,8 +12,7 @@ use Rattle.register.proofs.list_register.ListRegister.new.Needs as need
 pub ghost-result : need.ghost-result
 ghost-result c =
     let xs = records (c .new .result) in
-    let none = c .new .ensures .none in
-    (
+    let none = c .new .ensures .none in (
       ap (apart sameConsent) none,
       (
         (λ x e. absurd (both-ways _ (none-held xs (x .owner) (x .purpose) (x .«data_type») none) e)),

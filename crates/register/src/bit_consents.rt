@@ -2,6 +2,7 @@
 ghost use mathlib.Core.Path.{_≡_};
 ghost use mathlib.Core.Bool.{false};
 ghost use Prim.Native.Nat.{ℕ, _+_, _*_, _<_};
+ghost use Rattle.register.specs.Answers.{answerNumber, giveAnswer, afterGive};
 ghost use Rattle.register.specs.BitMeaning.{bitMeaning};
 use crate::bit_register::BitRegister;
 use crate::fault::RegisterFault;
@@ -44,7 +45,11 @@ pub impl ConsentRegister for BitRegister as BitConsents {
         self.words[word_of(owner, purpose)].contains(data_type)
     }
 
-    fn give(&mut self, owner: u16, purpose: u16, data_type: u16) -> Result<(), RegisterFault> {
+    fn give(&mut self, owner: u16, purpose: u16, data_type: u16) -> Result<(), RegisterFault>
+        ensures answer { λ r. ⌜ answerNumber r ≡ giveAnswer (bitMeaning (now (self .entry))) owner purpose «data_type» ⌝ }
+        ensures left { λ _. ⌜ bitMeaning (now (self .exit)) ≡ afterGive (bitMeaning (now (self .entry))) owner purpose «data_type» ⌝ }
+        ensures never_full { λ r. ⌜ (answerNumber r ≡ 13 → ⊥) ⌝ }
+    {
         if !in_range(owner, purpose, data_type) {
             return Err(RegisterFault::OutOfRange);
         }

@@ -4,5 +4,6 @@ pub mod bit_register;
 pub mod fault;
 pub mod list_consents;
 pub mod list_register;
+pub mod open;
 mod ranges;
 pub mod register;

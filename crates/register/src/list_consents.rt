@@ -4,7 +4,6 @@ ghost use mathlib.Core.List.{[]};
 ghost use Prim.Native.Nat.{ℕ, _<_, _≤_, min};
 ghost use lib.ListN.{length};
 ghost use Rattle.std.specs.shelf.Lists.{kept-by};
-ghost use Rattle.std.specs.Results.{Cases};
 ghost use Rattle.records.specs.Sets.{records, room};
 ghost use Rattle.register.specs.ListMeaning.{ofOwner, listMeaning, share};
 use crate::fault::RegisterFault;
@@ -30,18 +29,8 @@ fn count_of(rows: &[Consent], owner: u16) -> usize
 }
 
 impl<'a> ListRegister<'a> {
-    // Whether so many places are enough: every owner needs one at least.
-    pub fn check(places: &[Consent]) -> Result<(), RegisterFault>
-        ensures { λ r. ⌜ Cases r (λ _. 128 ≤ length (now (places .entry))) (λ f. length (now (places .entry)) < 128) ⌝ }
-    {
-        if places.len() < 128 {
-            return Err(RegisterFault::Full);
-        }
-        Ok(())
-    }
-
-    // An empty register over places that `check` let pass.
-    pub fn new(places: &'a mut [Consent]) -> ListRegister<'a>
+    // An empty register.
+    pub(crate) fn new(places: &'a mut [Consent]) -> ListRegister<'a>
         requires { ⌜ 128 ≤ length (now places) ⌝ }
         ensures none { λ r. ⌜ records (r .set) ≡ [] ⌝ }
         ensures room { λ r. ⌜ room (r .set) ≡ length (now (places .entry)) ⌝ }

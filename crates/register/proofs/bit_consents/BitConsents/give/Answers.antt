@@ -35,4 +35,5 @@ returns c =
       left =
           same-register (ap (λ n. entriesIn (set words n v)) at ∙ entry-put words o q v long (in-parts .owner) (in-parts .purpose) t true inside is)
           ∙ sym (cond-false _ _ _ (not-from-true _ inside) ∙ cond-false _ _ _ lacks ∙ cond-false _ _ _ room);
+      never-full = λ e. omega arith;
     }

@@ -1,0 +1,2 @@
+// What holds over every register, whatever its make: each law is the contract of a call.
+pub mod owners;

@@ -1,7 +1,7 @@
 -- What one owner's calls are to the others.
 use mathlib.Core.Path.{_≡_}
-use mathlib.Core.Bool.{Bool}
-use Prim.Native.Nat.{ℕ}
+use mathlib.Core.Bool.{false}
+use Prim.Native.Nat.{ℕ, _<_}
 use Rattle.register.specs.Meaning.{Register, held, counted, owned}
 use Rattle.register.specs.Answers.{giveAnswer, withdrawAnswer}
 
@@ -13,3 +13,11 @@ pub record AlikeToOthers (o : ℕ) (m n : Register) : Type 0 where
   pub counts : (a : ℕ) → (a ≡ o → ⊥) → owned (counted n) a ≡ owned (counted m) a
   pub gives : (a q t : ℕ) → (a ≡ o → ⊥) → giveAnswer n a q t ≡ giveAnswer m a q t
   pub withdrawals : (a q t : ℕ) → (a ≡ o → ⊥) → withdrawAnswer n a q t ≡ withdrawAnswer m a q t
+
+-- nothing is held, of whomever and for whatever
+abbrev pub HoldsNothing : Register → Type 0
+HoldsNothing m = (o q t : ℕ) → held m o q t ≡ false
+
+-- nothing is held of the owners below k
+abbrev pub HoldsNothingBelow : ℕ → Register → Type 0
+HoldsNothingBelow k m = (o q t : ℕ) → o < k → held m o q t ≡ false

@@ -8,7 +8,12 @@ use register::fault::RegisterFault;
 use register::register::ConsentRegister;
 
 // Gives a consent: no other owner can tell.
-pub fn give<R: ConsentRegister>(register: &mut R, owner: u16, purpose: u16, data_type: u16) -> Result<(), RegisterFault>
+pub fn give<R: ConsentRegister>(
+    register: &mut R,
+    owner: u16,
+    purpose: u16,
+    data_type: u16,
+) -> Result<(), RegisterFault>
     ensures answer { λ r. ⌜ answerNumber r ≡ giveAnswer (R·ConsentRegister .meaning (now (register .entry))) owner purpose «data_type» ⌝ }
     ensures others { λ _. ⌜ AlikeToOthers owner (R·ConsentRegister .meaning (now (register .entry))) (R·ConsentRegister .meaning (now (register .exit))) ⌝ }
 {
@@ -16,7 +21,12 @@ pub fn give<R: ConsentRegister>(register: &mut R, owner: u16, purpose: u16, data
 }
 
 // Withdraws a consent: no other owner can tell.
-pub fn withdraw<R: ConsentRegister>(register: &mut R, owner: u16, purpose: u16, data_type: u16) -> Result<(), RegisterFault>
+pub fn withdraw<R: ConsentRegister>(
+    register: &mut R,
+    owner: u16,
+    purpose: u16,
+    data_type: u16,
+) -> Result<(), RegisterFault>
     ensures answer { λ r. ⌜ answerNumber r ≡ withdrawAnswer (R·ConsentRegister .meaning (now (register .entry))) owner purpose «data_type» ⌝ }
     ensures others { λ _. ⌜ AlikeToOthers owner (R·ConsentRegister .meaning (now (register .entry))) (R·ConsentRegister .meaning (now (register .exit))) ⌝ }
 {
@@ -37,13 +47,4 @@ pub fn give_both<R: ConsentRegister>(register: &mut R, first: Consent, second: C
     let first = give(register, first.owner, first.purpose, first.data_type);
     let second = give(register, second.owner, second.purpose, second.data_type);
     BothGiven { first, second }
-}
-
-// Gives a consent and withdraws it again: the register is as it was, and what was given is never refused its withdrawal.
-pub fn give_then_withdraw<R: ConsentRegister>(register: &mut R, owner: u16, purpose: u16, data_type: u16) -> Result<(), RegisterFault>
-    ensures answer { λ r. ⌜ answerNumber r ≡ giveAnswer (R·ConsentRegister .meaning (now (register .entry))) owner purpose «data_type» ⌝ }
-    ensures left { λ _. ⌜ R·ConsentRegister .meaning (now (register .exit)) ≡ R·ConsentRegister .meaning (now (register .entry)) ⌝ }
-{
-    register.give(owner, purpose, data_type)?;
-    register.withdraw(owner, purpose, data_type)
 }

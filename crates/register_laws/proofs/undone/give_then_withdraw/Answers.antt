@@ -1,7 +1,7 @@
 use mathlib.Core.Path.{_≡_, refl, sym, ap, _∙_}
 use Rattle.register.specs.Answers.{giveAnswer, afterWithdraw, withdrawAnswer}
 use Rattle.register_laws.proofs.TakenBack.{withdrawn, taken-back}
-use Rattle.register_laws.proofs.owners.give_then_withdraw.Needs as need
+use Rattle.register_laws.proofs.undone.give_then_withdraw.Needs as need
 
 pub returns : need.returns
 returns g c =

@@ -1,5 +1,5 @@
 -- What the calls of an account are answered and leave.
-use mathlib.Core.Bool.{cond}
+use mathlib.Core.Bool.{false, cond}
 use mathlib.Core.List.{List, [], _∷_}
 use Prim.Native.Nat.{ℕ}
 use Rattle.register.specs.Meaning.{Register, held}
@@ -35,3 +35,7 @@ answered m (e ∷ es) = withAnswer m e ∷ answered (afterStep m (e .step)) es
 unfoldable pub afterAll : Register → List Entry → Register
 afterAll m [] = m
 afterAll m (e ∷ es) = afterAll (afterStep m (e .step)) es
+
+-- a register of this limit that holds nothing
+abbrev pub nothing : ℕ → Register
+nothing limit = record { limit = limit; entries = λ o q t. false }

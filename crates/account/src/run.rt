@@ -1,11 +1,11 @@
 // Running an account.
 ghost use mathlib.Core.Path.{_≡_};
+ghost use Rattle.register.specs.Answers.{answerNumber};
 ghost use Rattle.account.specs.Steps.{stepAnswer, afterStep, answered, afterAll};
 use crate::entry::Entry;
 use crate::entry::Step;
 use register::fault::RegisterFault;
 use register::register::ConsentRegister;
-ghost use Rattle.register.specs.Answers.{answerNumber};
 
 // The number of an answer: 0 where it was accepted.
 pub fn number(answer: Result<(), RegisterFault>) -> u8

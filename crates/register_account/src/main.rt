@@ -83,26 +83,31 @@ fn show(rt: LibcRuntime, bits: Entry, list: Entry, short: Entry) -> io::Result<(
     let b = list.answer;
     let c = short.answer;
     match bits.step {
-        Step::Give(x) => {
-            let owner = x.owner;
-            let purpose = x.purpose;
-            let data_type = x.data_type;
-            println!(rt, "give {owner} {purpose} {data_type}: {a} {b} {c}")
-        }
-        Step::Withdraw(x) => {
-            let owner = x.owner;
-            let purpose = x.purpose;
-            let data_type = x.data_type;
-            println!(rt, "withdraw {owner} {purpose} {data_type}: {a} {b} {c}")
-        }
+        Step::Give(
+            Consent {
+                owner,
+                purpose,
+                data_type,
+            },
+        ) => { println!(rt, "give {owner} {purpose} {data_type}: {a} {b} {c}") }
+        Step::Withdraw(
+            Consent {
+                owner,
+                purpose,
+                data_type,
+            },
+        ) => { println!(rt, "withdraw {owner} {purpose} {data_type}: {a} {b} {c}") }
         Step::Erase(owner) => println!(rt, "erase {owner}: {a} {b} {c}"),
         Step::Strike { purpose, data_type } => {
             println!(rt, "strike {purpose} {data_type}: {a} {b} {c}")
         }
-        Step::Ask(x) => {
-            let owner = x.owner;
-            let purpose = x.purpose;
-            let data_type = x.data_type;
+        Step::Ask(
+            Consent {
+                owner,
+                purpose,
+                data_type,
+            },
+        ) => {
             let a = word(a);
             let b = word(b);
             let c = word(c);

@@ -1,4 +1,6 @@
 // Reads a command book from standard input and prints what it asks, record by record, and where it is damaged.
+#![tactic(auto)]
+
 use book_report::report;
 use std::io;
 use std::io::{Read, Write};

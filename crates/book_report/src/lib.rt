@@ -1,4 +1,6 @@
 // What `book_check` prints of a book.
+#![tactic(auto)]
+
 ghost use Rattle.std.specs.Prelude.{◌≡◌, ℕ, ◌≤◌, ◌++◌, length, drop, IfOk, string_bytes, OnOk, slice_index};
 ghost use Rattle.book.specs.Format.{word};
 ghost use Rattle.book.specs.Tiling.{stop_place};

@@ -1,4 +1,6 @@
 // Tests of the command book on examples, in a crate of their own.
+#![tactic(auto)]
+
 #[cfg(test)]
 mod tests {
     use book::answer::answer_at;

@@ -1,4 +1,6 @@
 // Users, roles, assignments, inheritance and sessions: who may activate what, and which sessions end when a right is lost.
+#![tactic(auto)]
+
 pub mod directory;
 pub mod fault;
 mod inheritance;

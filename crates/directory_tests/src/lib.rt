@@ -1,4 +1,6 @@
 // Tests of the hierarchy and of the directory on examples, in a crate of their own.
+#![tactic(auto)]
+
 #[cfg(test)]
 mod answers;
 #[cfg(test)]

@@ -1,4 +1,6 @@
 // Role inheritance without circles.
+#![tactic(auto)]
+
 mod edits;
 pub mod fault;
 pub mod hierarchy;

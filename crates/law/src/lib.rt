@@ -1,2 +1,4 @@
 // The law of histories.
+#![tactic(auto)]
+
 pub mod law;

@@ -1,4 +1,6 @@
 // The ledgers of the owners: permits that are drawn, and then entered, handed back or lapsed.
+#![tactic(auto)]
+
 pub mod counts;
 pub mod fault;
 pub mod ledger;

@@ -1,4 +1,6 @@
 // Tests of the ledgers on examples, in a crate of their own.
+#![tactic(auto)]
+
 #[cfg(test)]
 mod tests {
     use bits::wide::SessionSet;

@@ -1,4 +1,6 @@
 // The output lines: one call makes each, and says exactly which bytes it holds.
+#![tactic(auto)]
+
 ghost use Rattle.std.specs.Prelude.{◌≡◌, ℕ, ◌+◌, ◌≤◌, [], ◌++◌, length, decimal};
 ghost use Rattle.lines.specs.Lines.{text, layer_name, record_head, ok_line, no_line, answer_line, end_line, bad_line, command_line, family_name, count_line};
 

@@ -1,5 +1,7 @@
 // A clerk who has an open session is moved out of a role. Each call is printed with its answer and with the sessions
 // that ended by it.
+#![tactic(auto)]
+
 use directory_laws::run::run;
 use directory_laws::turn::Turn;
 use std::io;

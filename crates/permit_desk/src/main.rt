@@ -1,5 +1,7 @@
 // Prints a morning at a pay desk: the permits that two clerks draw, enter and hand back, those that lapse, and the
 // account of each owner with its sum.
+#![tactic(auto)]
+
 use ledger::counts::Counts;
 use permit_scenario::line::{Account, Act, Line};
 use permit_scenario::scenario::run;

@@ -1,5 +1,7 @@
 // The worst cases of a reach: a chain of all 64 roles, and stacked diamonds, in which more than a thousand million chains
 // lead from the top to the bottom. Given a number of rounds it also prints how long a reach takes.
+#![tactic(auto)]
+
 use bits::wide::RoleSet;
 use hierarchy::hierarchy::Hierarchy;
 use std::env;

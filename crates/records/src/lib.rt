@@ -1,4 +1,6 @@
 // Sets of records without repeats, in a slice that the caller provides.
+#![tactic(auto)]
+
 pub mod kinds;
 pub mod methods;
 pub mod record;

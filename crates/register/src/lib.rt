@@ -1,4 +1,6 @@
 // The consent register: its meaning, and its makes.
+#![tactic(auto)]
+
 pub mod bit_consents;
 pub mod bit_register;
 pub mod fault;

@@ -1,5 +1,7 @@
 // Runs one list of calls over three consent registers and prints what they were answered, side by side: a register of
 // bits, a list register of the same limit, and a list register in which an owner may have two consents.
+#![tactic(auto)]
+
 use account::entry::{Entry, Step};
 use account::makes::{ENTRIES, run_bits, run_list};
 use records::kinds::Consent;

@@ -1,4 +1,6 @@
 // Tests of both makes of the register on the same calls, in a crate of their own.
+#![tactic(auto)]
+
 #[cfg(test)]
 mod tests {
     use records::kinds::Consent;

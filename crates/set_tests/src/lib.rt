@@ -1,4 +1,6 @@
 // Tests of the sets of bits and of records on examples, in a crate of their own.
+#![tactic(auto)]
+
 #[cfg(test)]
 mod tests {
     use bits::narrow::TypeSet;

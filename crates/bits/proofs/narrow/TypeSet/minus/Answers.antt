@@ -5,5 +5,5 @@ use Rattle.bits.proofs.narrow.TypeSet.minus.Goals as goal
 
 pub returns : goal.returns
 returns c =
-    let is = c.from-bits.ensures in
+    let is = c.from_bits.ensures in
     record { value = is; members = ap has is ∙ and_not_but 16 c.args.self.bits c.args.other.bits (omega arith) (omega arith) }

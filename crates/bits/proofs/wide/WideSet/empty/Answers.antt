@@ -4,4 +4,4 @@ use Rattle.bits.proofs.Laws.{zero_none}
 use Rattle.bits.proofs.wide.WideSet.empty.Goals as goal
 
 pub returns : goal.returns
-returns g c = record { value = c.from-bits.ensures; members = ap has c.from-bits.ensures ∙ zero_none }
+returns g c = record { value = c.from_bits.ensures; members = ap has c.from_bits.ensures ∙ zero_none }

@@ -1,4 +1,4 @@
-use Rattle.std.proofs.Common.{sym, ◌∙◌, arith}
+use Rattle.std.proofs.Common.{sym, arith}
 use Rattle.bits.proofs.Counts.{count_ones}
 use Rattle.bits.proofs.wide.WideSet.len.Goals as goal
 

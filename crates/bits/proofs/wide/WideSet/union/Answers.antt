@@ -5,5 +5,5 @@ use Rattle.bits.proofs.wide.WideSet.union.Goals as goal
 
 pub returns : goal.returns
 returns g c =
-    let is = c.from-bits.ensures in
+    let is = c.from_bits.ensures in
     record { value = is; members = ap has is ∙ or_either c.args.self.bits c.args.other.bits }

@@ -11,7 +11,7 @@ returns g c =
     let bits = c.args.self.bits in
     let n = c.args.n in
     let below = lt-ltb n 64 (omega arith) in
-    let is = c.from-bits.ensures in
+    let is = c.from_bits.ensures in
     record {
       value = is ∙ ap (bit_or bits) (one_bit 64 n (omega arith)) ∙ sym (cond-true _ _ _ below);
       members = ap has is ∙ with_bit 64 bits n (omega arith) ∙ sym (cond-true _ _ _ below);

@@ -1,4 +1,4 @@
-use Rattle.std.proofs.Common.{◌-◌, ◌^◌, sym, refl, ap, ◌∙◌, arith}
+use Rattle.std.proofs.Common.{◌-◌, ◌^◌, sym, ap, ◌∙◌, arith}
 use lib.Bits.{bit_and}
 use Rattle.std.proofs.lemmas.Bool.{lt-ltb, le-ltb, cond-true, cond-false}
 use Rattle.bits.specs.Sets.{has}
@@ -18,7 +18,7 @@ pub returns : goal.returns
 returns g c =
     let bits = c.args.self.bits in
     let n = c.args.n in
-    let is = c.from-bits.ensures in
+    let is = c.from_bits.ensures in
     record {
       value = is ∙ ap (λ x. bit_and bits (2 ^ 64 - 1 - x)) (one_bit 64 n (omega arith)) ∙ sym (cond-true _ _ _ (lt-ltb n 64 (omega arith)));
       members = ap has is ∙ without_bit 64 bits n (omega arith) (omega arith);

@@ -1,9 +1,9 @@
 -- A permit that is drawn and closed at once.
-use Rattle.std.proofs.Common.{◌≡◌, ℕ, ◌+◌, ◌<◌, true, false, eqb, List, [], ◌∷◌, map, length, is_some, Some, None, count_by, Option, sym, refl, ap, ◌∙◌, inl, inr, arith}
+use Rattle.std.proofs.Common.{◌≡◌, ℕ, ◌+◌, ◌<◌, true, eqb, List, [], ◌∷◌, map, is_some, Some, None, count_by, Option, refl, ap, ◌∙◌, inl, inr, arith}
 use Rattle.std.proofs.lemmas.Bool.{cases_Bool, eq-eqb}
-use Rattle.bits.specs.Tables.{one, put}
+use Rattle.bits.specs.Tables.{one}
 use Rattle.vocabulary.proofs.Puts.{put_here}
-use Rattle.ledger.specs.Places.{is_open, meets, cleared, placed, usage_in, permits_of}
+use Rattle.ledger.specs.Places.{meets, cleared, placed, usage_in, permits_of}
 use Rattle.ledger.specs.States.{LedgerState, opens, drawn, closed, at_once, Sound}
 use Rattle.ledger.specs.declared.place.Closing.{Closing}
 use Rattle.ledger.specs.declared.place.Closing.TheVariants.{Entry, HandingBack, Lapse}
@@ -11,7 +11,7 @@ use Rattle.ledger.specs.declared.place.Place.{Place}
 use Rattle.ledger.specs.declared.place.Place.TheVariants.{Empty, Open}
 use Rattle.ledger.specs.declared.place.Use.{Use}
 use Rattle.ledger.specs.declared.place.Which.TheVariants.{Serial}
-use Rattle.ledger.proofs.Closings.{count_cons, count_serial, cleared_none, same_state}
+use Rattle.ledger.proofs.Closings.{count_serial, same_state}
 use Rattle.ledger.proofs.Draws.{Room, absent, room_next, placed_usage, placed_distinct}
 
 -- a serial that is not open is in no place

@@ -1,5 +1,5 @@
 -- One step of a walk over the places.
-use Rattle.std.proofs.Common.{◌≡◌, ℕ, suc, ◌+◌, ◌-◌, ◌<◌, ◌≤◌, Bool, true, false, cond, eqb, List, [], ◌∷◌, ◌++◌, map, length, get_or, take, drop, set, is_ok, Ok, Err, count_by, Result, sym, refl, ap, ◌∙◌, append_assoc, add-one, arith, length-take-le, get_or-drop}
+use Rattle.std.proofs.Common.{◌≡◌, ℕ, ◌+◌, ◌-◌, ◌<◌, true, false, List, [], ◌∷◌, ◌++◌, map, length, get_or, take, drop, set, is_ok, Ok, Err, count_by, Result, sym, refl, ap, ◌∙◌, append_assoc, add-one, arith, length-take-le, get_or-drop}
 use Rattle.std.proofs.lemmas.List.{get_or-append_right, get_or_default, length-map, set_split, drop_more, take_more}
 use Rattle.std.proofs.lemmas.List.Sums.{count_by_more_yes, count_by_more_no}
 use Rattle.std.proofs.lemmas.List.Edits.{map_over_more}

@@ -1,5 +1,5 @@
 -- The places of a ledger, and the events that one place takes.
-use Rattle.std.specs.Prelude.{ℕ, Bool, true, false, cond, not, ◌&&◌, List, [], ◌∷◌, map, is_some, Some, None, Option, ◌==◌, nat_le, nat_lt}
+use Rattle.std.specs.Prelude.{ℕ, Bool, true, false, cond, not, ◌&&◌, List, [], ◌∷◌, is_some, Some, None, Option, ◌==◌, nat_le, nat_lt}
 use Rattle.bits.specs.Sets.{members}
 use Rattle.vocabulary.specs.Questions.{asks}
 use Rattle.bits.specs.Tables.{put}

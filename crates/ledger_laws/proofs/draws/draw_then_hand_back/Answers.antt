@@ -13,9 +13,9 @@ returns c =
     let f = ledgers_of c.args.ledgers.now in
     let g = ledgers_of c.draw.new.self in
     let sound = table_sound c.args.ledgers.now.all o in
-    let drew = c.in-ok-permit.ensures in
+    let drew = c.in_ok-permit.ensures in
     let accepted = ap (λ (a : Answer). a.number) drew.answer in
-    let permit = c.in-ok-permit.permit in
+    let permit = c.in_ok-permit.permit in
     record {
       answer = once_answer HandingBack o u f g sound accepted c.draw.ensures.left permit.owner permit.serial drew.serial.0 drew.serial.1 c.hand-back.result c.hand-back.ensures.answer;
       left = left_at_once HandingBack o u f g sound accepted c.draw.ensures.left permit.owner permit.serial drew.serial.0 drew.serial.1 (ledgers_of c.hand-back.new.self) c.hand-back.ensures.left;

@@ -1,9 +1,8 @@
-use Rattle.std.proofs.Common.{◌≡◌, ℕ, ◌+◌, Bool, true, false, is_some, sym, refl, ap, ◌∙◌, arith}
-use Rattle.bits.specs.Tables.{one}
+use Rattle.std.proofs.Common.{◌≡◌, true, false, is_some, sym, ◌∙◌}
 use Rattle.ledger.specs.Places.{usage_in, permits_of}
 use Rattle.ledger.specs.States.{state_of}
 use Rattle.ledger.specs.declared.place.Which.TheVariants.{Serial}
-use Rattle.ledger.proofs.Closings.{count_serial, closed_none, found_open, is_closed}
+use Rattle.ledger.proofs.Closings.{closed_none, found_open, is_closed}
 use Rattle.ledger.proofs.ledger.Ledger.settle.Goals as goal
 
 pub returns-then-close-eq0 : goal.returns-then-close-eq0

@@ -6,14 +6,14 @@ use Rattle.ledger.specs.declared.place.Place.TheVariants.{Empty}
 use Rattle.ledger.proofs.Walks.{drawn_here, not_here, placed_here, placed_next}
 use Rattle.ledger.proofs.ledger.places.draw.Goals as goal
 
-pub returns-then-is-ok : goal.returns-then-is-ok
-returns-then-is-ok c =
+pub returns-then-is_ok : goal.returns-then-is_ok
+returns-then-is_ok c =
     let n = c.args.serial in
     let u = c.args.usage in
     let ps = c.loop-at.places in
     let i = c.loop-at.at in
     let lt : i < length ps = omega arith in
-    let here = drawn_here n u (get_or ps i Empty) c.take.result c.take.ensures.answer c.if-is-ok.ensures.value in
+    let here = drawn_here n u (get_or ps i Empty) c.take.result c.take.ensures.answer c.if-is_ok.ensures.value in
     ap (set ps i) (c.take.ensures.left ∙ here.1) ∙ placed_here n u ps i lt here.0 ∙ sym c.loop-at.invariant.1 ∙ ap (placed n u) c.loop-at.invariant.0
 
 pub loop-at-preserved : goal.loop-at-preserved
@@ -23,7 +23,7 @@ loop-at-preserved c =
     let ps = c.loop-at.places in
     let i = c.loop-at.at in
     let lt : i < length ps = omega arith in
-    let past = not_here n u (get_or ps i Empty) c.take.result c.take.ensures.answer c.if-is-ok.ensures.value in
+    let past = not_here n u (get_or ps i Empty) c.take.result c.take.ensures.answer c.if-is_ok.ensures.value in
     let same : set ps i c.take.new.self ≡ ps = ap (set ps i) (c.take.ensures.left ∙ past.1) ∙ set-get_or ps i Empty in (
       same ∙ c.loop-at.invariant.0,
       subst (λ (qs : List Place). placed n u qs ≡ take (i + 1) qs ++ placed n u (drop (i + 1) qs)) (sym same)

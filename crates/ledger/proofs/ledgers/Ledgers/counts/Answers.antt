@@ -1,4 +1,4 @@
-use Rattle.std.proofs.Common.{◌≡◌, ◌<◌, [], length, replicate, Ok, ap, rules}
+use Rattle.std.proofs.Common.{◌<◌, [], length, replicate, Ok, ap, rules}
 use Rattle.ledger.specs.Answers.{counts_answer}
 use Rattle.ledger.specs.Table.{five_counts}
 use Rattle.ledger.specs.declared.counts.Counts.{Counts}

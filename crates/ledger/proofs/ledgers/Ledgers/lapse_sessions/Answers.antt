@@ -1,4 +1,4 @@
-use Rattle.std.proofs.Common.{◌≡◌, ◌<◌, ◌≤◌, [], ◌++◌, map, length, take, drop, sym, refl, ap, ◌∙◌, append-nil, arith, length-set, rules}
+use Rattle.std.proofs.Common.{◌≡◌, ◌≤◌, [], map, length, take, drop, sym, refl, ◌∙◌, append-nil, arith, length-set, rules}
 use Rattle.std.proofs.lemmas.List.{take_all, drop_all, length-map}
 use Rattle.ledger.specs.Places.{permits_of}
 use Rattle.ledger.specs.States.{state_of, closed}
@@ -19,7 +19,7 @@ loop-owner-preserved c =
     let full : length ls ≡ 128 = search rules in (
       length-set _ _ _ ∙ inv.0,
       λ h. sym inv.0 ∙ full,
-      table_again (closed Lapse (permits_of (Sessions c.args.sessions))) (map state_of before) ls o c.index-self-owner.result c.lapse-sessions.new.self (omega arith) (omega (arith, length-map before state_of, inv.0)) inv.2 c.lapse-sessions.ensures,
+      table_again (closed Lapse (permits_of (Sessions c.args.sessions))) (map state_of before) ls o c.index-self-owner.result c.lapse_sessions.new.self (omega arith) (omega (arith, length-map before state_of, inv.0)) inv.2 c.lapse_sessions.ensures,
     )
 
 pub returns : goal.returns

@@ -1,4 +1,4 @@
-use Rattle.std.proofs.Common.{◌≡◌, ℕ, ◌<◌, List, [], ◌∷◌, length, get_or, is_some, IfOk, Some, None, Option, Result, sym, refl, ap, ◌∙◌, subst, rules}
+use Rattle.std.proofs.Common.{◌≡◌, ◌<◌, [], ◌∷◌, length, get_or, is_some, IfOk, Some, None, Option, Result, sym, refl, ap, ◌∙◌, subst, rules}
 use Rattle.std.specs.Option.{ok_or}
 use Rattle.vocabulary.specs.Questions.{asks}
 use Rattle.ledger.specs.Answers.{answered, usage_answer}
@@ -27,11 +27,11 @@ returns c =
     let was = c.index-self-owner.result in
     let in_all : o < length ls = search rules in
     let here = usage_in (table_of ls o).places n in
-    let read : c.ok-or.result ≡ ok_or (usage_in (state_of (get_or ls o was)).places n) NotOpen = c.ok-or.ensures.value ∙ ap (λ (x : Option Use). ok_or x NotOpen) c.usage.ensures in
+    let read : c.ok_or.result ≡ ok_or (usage_in (state_of (get_or ls o was)).places n) NotOpen = c.ok_or.ensures.value ∙ ap (λ (x : Option Use). ok_or x NotOpen) c.usage.ensures in
     let same : ok_or (usage_in (state_of (get_or ls o was)).places n) NotOpen ≡ ok_or here NotOpen = ap (λ (s : LedgerState). ok_or (usage_in s.places n) NotOpen) (table_at ls o was in_all) in
     record {
       answer =
-          table_answer ls o was in_all c.if-owner-ge128.false (close_questions n) (usage_answer c.ok-or.result) (λ s. use_values (usage_in s.places n)) []
+          table_answer ls o was in_all c.if-owner-ge128.false (close_questions n) (usage_answer c.ok_or.result) (λ s. use_values (usage_in s.places n)) []
           (ap usage_answer read ∙ answer_of (usage_in (state_of (get_or ls o was)).places n));
       found = subst (λ (r : Result Use LedgerFault). IfOk r (λ u. here ≡ Some u)) (sym (read ∙ same)) (found_of here);
     }

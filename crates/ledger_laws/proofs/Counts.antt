@@ -1,10 +1,10 @@
 -- How many serials have a fate after a step of the account.
-use Rattle.std.proofs.Common.{◌≡◌, ℕ, suc, ◌+◌, ◌<◌, Bool, true, false, cond, ◌&&◌, eqb, ltb, leb, Some, None, count_by, Option, sym, refl, ap, ◌∙◌, inl, inr, add-one, arith}
+use Rattle.std.proofs.Common.{◌≡◌, ℕ, ◌+◌, Bool, true, false, cond, ◌&&◌, ltb, leb, count_by, Option, sym, refl, ap, ◌∙◌, add-one, arith}
 use Rattle.std.proofs.lemmas.Bool.Decides.{nat_tests}
 use Rattle.bits.specs.Tables.{one, put, count_below}
 use Rattle.vocabulary.proofs.Counts.{count_sum, count_same, count_one_more}
 use Rattle.vocabulary.proofs.Puts.{put_here, put_other}
-use Rattle.ledger.specs.Places.{Permits, is_open, meets, usage_in}
+use Rattle.ledger.specs.Places.{Permits, meets, usage_in}
 use Rattle.ledger.specs.States.{LedgerState, opens, Sound}
 use Rattle.ledger.specs.declared.place.Closing.{Closing}
 use Rattle.ledger.specs.declared.place.Use.{Use}

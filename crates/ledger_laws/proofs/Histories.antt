@@ -1,21 +1,20 @@
 -- Lists of events, one event on.
-use Rattle.std.proofs.Common.{◌≡◌, ℕ, zero, suc, ◌+◌, ◌<◌, ◌≤◌, Bool, true, false, ◌&&◌, ltb, leb, List, [], ◌∷◌, ◌++◌, reverse, length, get_or, take, is_some, Option, sym, refl, ap, ◌∙◌, subst, inl, inr, arith}
+use Rattle.std.proofs.Common.{◌≡◌, ℕ, zero, suc, ◌+◌, ◌<◌, ◌≤◌, Bool, false, ◌&&◌, ltb, leb, List, [], ◌∷◌, reverse, length, get_or, take, is_some, Option, sym, refl, ap, ◌∙◌, subst, inl, inr, arith}
 use mathlib.Core.List.{reverse-append}
 use Rattle.std.proofs.lemmas.List.{take_more}
-use Rattle.std.proofs.lemmas.Bool.{cases_eq, cases_lt, lt-ltb, le-ltb}
+use Rattle.std.proofs.lemmas.Bool.{cases_eq, cases_lt, le-ltb}
 use Rattle.std.proofs.lemmas.Bool.Decides.{nat_tests}
 use Rattle.vocabulary.specs.Questions.{asks, first_no, if_accepted}
-use Rattle.bits.specs.Tables.{put, count_below}
+use Rattle.bits.specs.Tables.{put}
 use Rattle.vocabulary.proofs.Puts.{put_here, put_other}
 use Rattle.ledger.specs.Places.{usage_in, permits_of}
 use Rattle.ledger.specs.States.{LedgerState, empty_ledger, drawn, closed, Sound}
 use Rattle.ledger.specs.Table.{Table, known, close_asked}
-use Rattle.ledger.specs.declared.place.Closing.{Closing}
 use Rattle.ledger.specs.declared.place.Closing.TheVariants.{Entry, HandingBack, Lapse}
 use Rattle.ledger.specs.declared.place.Use.{Use}
 use Rattle.ledger.specs.declared.place.Which.TheVariants.{Serial, All}
 use Rattle.ledger_laws.specs.Events.{call_answer, event_left}
-use Rattle.ledger_laws.specs.Fates.{Fate, NeverIssued, StillOpen, WasEntered, WasHandedBack, HasLapsed, is_still_open, open_use, Account, nothing, step, account, account_answer, Accounted}
+use Rattle.ledger_laws.specs.Fates.{Fate, NeverIssued, StillOpen, WasEntered, WasHandedBack, HasLapsed, is_still_open, open_use, Account, step, account, account_answer, Accounted}
 use Rattle.ledger_laws.specs.declared.event.LedgerEvent.{LedgerEvent}
 use Rattle.ledger_laws.specs.declared.event.LedgerEvent.TheVariants.{Of, SessionsEnd}
 use Rattle.ledger_laws.specs.declared.event.OwnerCall.{OwnerCall}

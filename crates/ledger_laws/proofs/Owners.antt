@@ -1,11 +1,11 @@
 -- One owner's ledger among those of all, event by event.
-use Rattle.std.proofs.Common.{◌≡◌, ℕ, zero, suc, ◌<◌, true, cond, eqb, ltb, List, [], ◌∷◌, sym, refl, ap, ◌∙◌, subst, inl, inr, arith}
+use Rattle.std.proofs.Common.{◌≡◌, ℕ, zero, suc, ◌<◌, true, ltb, List, [], ◌∷◌, sym, refl, ◌∙◌, subst, inl, inr}
 use Rattle.std.proofs.lemmas.Bool.{cases_eq, eq-eqb, ne_eqb, lt-ltb}
 use Rattle.vocabulary.specs.Questions.{Question, first_no, if_accepted}
 use Rattle.bits.specs.Tables.{put}
 use Rattle.vocabulary.proofs.Puts.{put_here, put_other}
 use Rattle.ledger.specs.Places.{permits_of}
-use Rattle.ledger.specs.States.{LedgerState, drawn, closed, draw_questions, close_questions, after_draw, after_close, Sound}
+use Rattle.ledger.specs.States.{LedgerState, drawn, closed, draw_questions, close_questions, after_close, Sound}
 use Rattle.ledger.specs.Table.{Table, known}
 use Rattle.ledger.specs.declared.place.Closing.{Closing}
 use Rattle.ledger.specs.declared.place.Closing.TheVariants.{Entry, HandingBack, Lapse}

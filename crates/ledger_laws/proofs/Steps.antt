@@ -1,20 +1,19 @@
 -- A ledger that is as the account has it stays so, event by event.
-use Rattle.std.proofs.Common.{◌≡◌, ℕ, ◌+◌, ◌<◌, ◌≤◌, Bool, true, false, cond, ◌&&◌, eqb, ltb, leb, List, [], length, is_some, Some, None, count_by, Option, sym, refl, ap, ◌∙◌, subst, inl, inr, arith}
+use Rattle.std.proofs.Common.{◌≡◌, ℕ, ◌+◌, ◌<◌, Bool, true, false, cond, ◌&&◌, eqb, ltb, leb, is_some, Some, None, count_by, Option, sym, refl, ap, ◌∙◌, subst, inl, inr, arith}
 use mathlib.Core.Path.{fun_ext}
 use Rattle.std.proofs.lemmas.Bool.{cases_Bool, cases_eq, eq-eqb, ne_eqb, ltb-true}
 use Rattle.std.proofs.lemmas.Bool.Decides.{nat_tests}
-use Rattle.vocabulary.specs.Questions.{first_no, if_accepted}
+use Rattle.vocabulary.specs.Questions.{if_accepted}
 use Rattle.bits.specs.Tables.{one, put}
-use Rattle.vocabulary.proofs.Puts.{put_here, put_other}
-use Rattle.ledger.specs.Places.{Permits, is_open, meets, cleared, usage_in, permits_of}
-use Rattle.ledger.specs.States.{LedgerState, opens, drawn, closed, draw_questions, close_questions, after_draw, after_close, Sound}
+use Rattle.ledger.specs.Places.{Permits, meets, usage_in, permits_of}
+use Rattle.ledger.specs.States.{LedgerState, opens, drawn, closed, after_draw, after_close, Sound}
 use Rattle.ledger.specs.declared.place.Closing.{Closing}
 use Rattle.ledger.specs.declared.place.Closing.TheVariants.{Entry, HandingBack, Lapse}
 use Rattle.ledger.specs.declared.place.Use.{Use}
 use Rattle.ledger.specs.declared.place.Which.TheVariants.{Serial}
 use Rattle.ledger.proofs.Closings.{count_serial, closed_none}
 use Rattle.ledger.proofs.Draws.{absent, placed_usage}
-use Rattle.ledger_laws.specs.Fates.{Fate, NeverIssued, StillOpen, WasEntered, WasHandedBack, HasLapsed, is_issued, is_still_open, is_entered, is_handed_back, is_lapsed, open_use, fate_by, Account, how_many, issue_step, draw_step, close_fate, close_step, Accounted}
+use Rattle.ledger_laws.specs.Fates.{Fate, NeverIssued, StillOpen, WasEntered, WasHandedBack, HasLapsed, is_issued, is_entered, is_handed_back, is_lapsed, open_use, fate_by, Account, issue_step, draw_step, close_fate, close_step, Accounted}
 use Rattle.ledger_laws.proofs.Serials.{kept, cleared_usage}
 use Rattle.ledger_laws.proofs.Counts.{closed_count, drawn_count, open_count}
 

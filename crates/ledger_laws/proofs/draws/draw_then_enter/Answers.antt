@@ -1,4 +1,4 @@
-use Rattle.std.proofs.Common.{◌≡◌, ap}
+use Rattle.std.proofs.Common.{ap}
 use Rattle.ledger.specs.Answers.{Answer}
 use Rattle.ledger.specs.Table.{ledgers_of}
 use Rattle.ledger.specs.declared.place.Closing.TheVariants.{Entry}

@@ -1,9 +1,8 @@
-use Rattle.std.proofs.Common.{◌≡◌, ℕ, ◌+◌, List, [], reverse, take, sym, ap, ◌∙◌, subst}
+use Rattle.std.proofs.Common.{List, [], reverse, sym, subst}
 use Rattle.std.proofs.lemmas.List.{take_all}
-use Rattle.ledger.specs.States.{LedgerState, Sound}
 use Rattle.ledger.specs.Table.{Table, ledgers_of}
 use Rattle.ledger.proofs.Tables.{table_sound}
-use Rattle.ledger_laws.specs.Fates.{Account, account, step, Accounted}
+use Rattle.ledger_laws.specs.Fates.{account, Accounted}
 use Rattle.ledger_laws.specs.declared.event.LedgerEvent.{LedgerEvent}
 use Rattle.ledger_laws.proofs.Histories.{none_accounted, accounted_more}
 use Rattle.ledger_laws.proofs.history.history.Goals as goal

@@ -1,7 +1,7 @@
-use Rattle.std.proofs.Common.{◌≡◌, ℕ, List, get_or, take, sym, refl, ap, ◌∙◌, arith}
+use Rattle.std.proofs.Common.{List, get_or, sym, refl, ap, ◌∙◌, arith}
 use Rattle.std.proofs.lemmas.List.{take_all}
 use Rattle.std.proofs.lemmas.List.Sums.{fold_more}
-use Rattle.ledger.specs.Table.{Table, ledgers_of}
+use Rattle.ledger.specs.Table.{ledgers_of}
 use Rattle.ledger_laws.specs.Events.{event_left, all_left}
 use Rattle.ledger_laws.specs.declared.event.LedgerEvent.{LedgerEvent}
 use Rattle.ledger_laws.proofs.Histories.{grows_more}

@@ -1,4 +1,4 @@
-use Rattle.std.proofs.Common.{◌≡◌, List, get_or, sym, refl, ap, ◌∙◌}
+use Rattle.std.proofs.Common.{List, get_or, sym, refl, ap, ◌∙◌}
 use Rattle.std.proofs.lemmas.List.{take_all}
 use Rattle.std.proofs.lemmas.List.Sums.{fold_more}
 use Rattle.ledger.specs.Table.{Table, ledgers_of}

@@ -8,10 +8,10 @@ use Rattle.hierarchy.specs.Chains.{Acyclic}
 use Rattle.hierarchy.proofs.Circles.{acyclic_none, bounded_none}
 use Rattle.hierarchy.proofs.hierarchy.Hierarchy.new.Goals as goal
 
-pub invariant-of-result : goal.invariant-of-result
-invariant-of-result c =
+pub invariant_of-result : goal.invariant_of-result
+invariant_of-result c =
     let is = fresh members 64 c.empty.result no_roles none c.empty.ensures.members zero_none in
-    (subst Acyclic (sym is) acyclic_none, (subst Bounded (sym is) bounded_none, tt))
+    record { acyclic = subst Acyclic (sym is) acyclic_none; inside = subst Bounded (sym is) bounded_none }
 
 pub returns : goal.returns
 returns c = fresh members 64 c.empty.result no_roles none c.empty.ensures.members zero_none

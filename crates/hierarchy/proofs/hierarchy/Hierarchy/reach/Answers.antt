@@ -16,12 +16,12 @@ loop-frontier-init c =
 pub loop-frontier-preserved : goal.loop-frontier-preserved
 loop-frontier-preserved c =
     let h = c.args.self.now in
-    going_more (pairs_in h.juniors) h.inside h.acyclic _ _ _ _ _ c.loop-frontier.invariant c.juniors-of-frontier.ensures c.union-all.ensures.members
+    going_more (pairs_in h.juniors) h.inside h.acyclic _ _ _ _ _ c.loop-frontier.invariant c.juniors_of-frontier.ensures c.union-all.ensures.members
 
 pub loop-frontier-smaller : goal.loop-frontier-smaller
 loop-frontier-smaller c =
     let h = c.args.self.now in
-    rounds_fall (pairs_in h.juniors) h.inside h.acyclic _ _ c.juniors-of-frontier.ensures c.loop-frontier.invariant.inside
+    rounds_fall (pairs_in h.juniors) h.inside h.acyclic _ _ c.juniors_of-frontier.ensures c.loop-frontier.invariant.inside
     (λ empty. false≢true (c.loop-frontier-test.ensures.1 empty))
 
 pub returns : goal.returns

@@ -11,7 +11,7 @@ use Rattle.hierarchy.proofs.hierarchy.Hierarchy.with_edge.Goals as goal
 use Rattle.hierarchy.proofs.hierarchy.Hierarchy.with_edge.Goals.{After-with}
 
 range : (c : After-with) → (c.args.senior < 64) × (c.args.junior < 64)
-range c = c.within_range.ensures.both.0 c.if-not-in-range.false
+range c = c.in_range.ensures.both.0 c.if-not-in_range.false
 
 left : (c : After-with) → pairs_in (set c.args.self.juniors c.args.senior c.with.result) ≡ put_pair c.args.senior c.args.junior true (pairs_in c.args.self.juniors)
 left c =
@@ -20,17 +20,18 @@ left c =
 
 -- no way leads from the junior to the senior
 free : (c : After-with) → Above (pairs_in c.args.self.juniors) c.args.junior c.args.senior → ⊥
-free c w = not_from_Decides c.above-or-equal-circle.result c.above-or-equal-circle.ensures.chain c.if-circle.false ((range c).1, w)
+free c w = not_from_Decides c.above_or_equal-circle.result c.above_or_equal-circle.ensures.chain c.if-circle.false ((range c).1, w)
 
-pub invariant-of-result : goal.invariant-of-result
-invariant-of-result c =
+pub invariant_of-result : goal.invariant_of-result
+invariant_of-result c =
     let h = c.args.self in
     let pairs = pairs_in h.juniors in
     let a = c.args.senior in
-    let d = c.args.junior in (
-      joined_acyclic pairs a d _ (left c) h.acyclic (free c),
-      (joined_bounded pairs a d _ (left c) (range c).0 (range c).1 h.inside, tt),
-    )
+    let d = c.args.junior in
+    record {
+      acyclic = joined_acyclic pairs a d _ (left c) h.acyclic (free c);
+      inside = joined_bounded pairs a d _ (left c) (range c).0 (range c).1 h.inside;
+    }
 
 pub returns : goal.returns
 returns c =

@@ -10,11 +10,11 @@ use Rattle.hierarchy.proofs.hierarchy.Hierarchy.without_edge.Goals.{After-withou
 left : (c : After-without) → pairs_in (set c.args.self.juniors c.args.senior c.without.result) ≡ put_pair c.args.senior c.args.junior false (pairs_in c.args.self.juniors)
 left c = pair_written c.args.self.juniors c.args.senior c.args.junior false c.without.result (search rules) c.without.ensures.members
 
-pub invariant-of-result : goal.invariant-of-result
-invariant-of-result c =
+pub invariant_of-result : goal.invariant_of-result
+invariant_of-result c =
     let h = c.args.self in
     let gone = pair_gone (pairs_in h.juniors) c.args.senior c.args.junior _ (left c) in
-    (cut_acyclic (pairs_in h.juniors) _ _ gone h.acyclic, (cut_bounded (pairs_in h.juniors) _ _ gone h.inside, tt))
+    record { acyclic = cut_acyclic (pairs_in h.juniors) _ _ gone h.acyclic; inside = cut_bounded (pairs_in h.juniors) _ _ gone h.inside }
 
 pub returns : goal.returns
 returns c =

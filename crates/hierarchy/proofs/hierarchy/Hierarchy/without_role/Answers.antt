@@ -18,11 +18,11 @@ left c =
     ∙ ap (put c.args.role none) (c.loop-r.invariant.1 ∙ ap (λ n. swept n c.args.role old) end)
     ∙ swept_all c.args.role old c.args.self.inside
 
-pub invariant-of-result : goal.invariant-of-result
-invariant-of-result c =
+pub invariant_of-result : goal.invariant_of-result
+invariant_of-result c =
     let h = c.args.self in
     let gone = role_is_gone (pairs_in h.juniors) c.args.role _ (left c) in
-    (cut_acyclic (pairs_in h.juniors) _ _ gone h.acyclic, (cut_bounded (pairs_in h.juniors) _ _ gone h.inside, tt))
+    record { acyclic = cut_acyclic (pairs_in h.juniors) _ _ gone h.acyclic; inside = cut_bounded (pairs_in h.juniors) _ _ gone h.inside }
 
 pub loop-r-init : goal.loop-r-init
 loop-r-init c = (search rules, swept_none c.args.role (pairs_in c.args.self.juniors))

@@ -3,7 +3,7 @@ ghost use Rattle.std.specs.Prelude.{◌≡◌};
 ghost use Rattle.directory.specs.Answers.{fault_number, answer_number, answer_ends, add_inheritance_answer, delete_inheritance_answer};
 ghost use Rattle.directory.specs.Effects.{after_add_inheritance, delete_inheritance_ends, after_delete_inheritance};
 ghost use Rattle.directory.specs.View.{state_of};
-ghost use Rattle.hierarchy.specs.Edits.{fault_number as hierarchyNumber};
+ghost use Rattle.hierarchy.specs.Edits.{fault_number as hierarchy_number};
 
 use crate::directory::Directory;
 use crate::fault::DirectoryFault;
@@ -11,7 +11,7 @@ use bits::wide::SessionSet;
 use hierarchy::fault::HierarchyFault;
 
 impl From<HierarchyFault> for DirectoryFault {
-    ghost from_gives = { λ f r. fault_number r ≡ hierarchyNumber f };
+    ghost from_gives = { λ f r. fault_number r ≡ hierarchy_number f };
 
     fn from(fault: HierarchyFault) -> DirectoryFault {
         match fault {

@@ -9,7 +9,7 @@ use Rattle.directory.proofs.directory.Directory.delete_inheritance.Goals as goal
 pub returns : goal.returns
 returns c =
     let d = state_of c.args.self.now in
-    let gone = ap (λ p. with_inherits p d) c.in-ok-self.ensures.left in
+    let gone = ap (λ p. with_inherits p d) c.in_ok-self.ensures.left in
     let accepted : delete_inheritance_answer d c.args.ascendant c.args.descendant ≡ 0 = search rules in
     record {
       answer = sym accepted;

@@ -13,11 +13,11 @@ pub returns : goal.returns
 returns c =
     let d = state_of c.args.self.now in
     let r = c.args.role in
-    let unassigned = state_of c.unassign-all.new.self in
+    let unassigned = state_of c.unassign_all.new.self in
     let gone =
-    ap (λ p. with_inherits p unassigned) c.without-role-self.ensures.left
+    ap (λ p. with_inherits p unassigned) c.without_role-self.ensures.left
     ∙ ap (λ e. with_inherits (without_role r e.inherits) e)
-    (c.unassign-all.ensures ∙ ap (λ f. with_assigned (λ u. put r false (d.assigned u)) (with_roles f d)) c.without-self.ensures.members)
+    (c.unassign_all.ensures ∙ ap (λ f. with_assigned (λ u. put r false (d.assigned u)) (with_roles f d)) c.without-self.ensures.members)
     in
     let accepted : delete_role_answer d r ≡ 0 = search rules in
     record {

@@ -20,7 +20,7 @@ loop-session-preserved c =
     let m = members c.args.which in
     let i = c.loop-session.session in
     elim c.if-contains.branch [
-      | then-contains w ↦ ap state_of w.self-is ∙ w.session_put.ensures ∙ ap (put_session i closed) c.loop-session.invariant ∙ ended_yes d m i (sym c.contains.ensures ∙ w.if-contains.true)
+      | then-contains w ↦ ap state_of w.self-is ∙ w.put_session.ensures ∙ ap (put_session i closed) c.loop-session.invariant ∙ ended_yes d m i (sym c.contains.ensures ∙ w.if-contains.true)
       | else-contains w ↦ ap state_of w.self-is ∙ c.loop-session.invariant ∙ ended_no d m i (sym c.contains.ensures ∙ w.if-contains.false)
     ]
 

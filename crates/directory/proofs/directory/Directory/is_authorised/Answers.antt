@@ -11,6 +11,6 @@ returns c =
     let d = state_of c.args.self.now in
     let wanted = c.args.wanted in
     let few : wanted.bits < 2 ^ 64 = search rules in
-    let reached : members c.reach.result ≡ reach_of d.inherits (d.assigned c.args.user) = c.reach.ensures.value ∙ ap (reach_of d.inherits) c.assigned-roles.ensures in
-    all_in_decided (members wanted) (reach_of d.inherits (d.assigned c.args.user)) c.is-subset.result (members_inside wanted few)
-    (subst (λ f. Decides c.is-subset.result (Within (members wanted) f)) reached c.is-subset.ensures)
+    let reached : members c.reach.result ≡ reach_of d.inherits (d.assigned c.args.user) = c.reach.ensures.value ∙ ap (reach_of d.inherits) c.assigned_roles.ensures in
+    all_in_decided (members wanted) (reach_of d.inherits (d.assigned c.args.user)) c.is_subset.result (members_inside wanted few)
+    (subst (λ f. Decides c.is_subset.result (Within (members wanted) f)) reached c.is_subset.ensures)

@@ -10,5 +10,5 @@ pub returns : goal.returns
 unfolding sessions_that
 returns c =
     c.len.ensures
-    ∙ ap (λ f. count_below f 64) c.sessions-that.ensures
+    ∙ ap (λ f. count_below f 64) c.sessions_that.ensures
     ∙ count_so_far (λ s. is_open ((state_of c.args.self.now).session s)) 64

@@ -7,7 +7,7 @@ use Rattle.bits.specs.Sets.{members}
 use Rattle.directory.specs.Sessions.{is_meant, sessions_that}
 use Rattle.directory.specs.View.{state_of}
 use Rattle.directory.proofs.directory.Directory.sessions_that.Goals as goal
-use Rattle.directory.proofs.directory.Directory.sessions_that.Goals.{then-is-meant, else-is-meant}
+use Rattle.directory.proofs.directory.Directory.sessions_that.Goals.{then-is_meant, else-is_meant}
 
 pub loop-session-init : goal.loop-session-init
 loop-session-init c = c.empty-found.ensures.members ∙ marks_none (λ s. is_meant (state_of c.args.self.now) c.args.which ((state_of c.args.self.now).session s))
@@ -17,16 +17,16 @@ loop-session-preserved c =
     let d = state_of c.args.self.now in
     let meant : ℕ → Bool = λ s. is_meant d c.args.which (d.session s) in
     let i = c.loop-session.session in
-    let told : c.is-meant.result ≡ meant i = c.is-meant.ensures ∙ ap (is_meant d c.args.which) c.session.ensures in
+    let told : c.is_meant.result ≡ meant i = c.is_meant.ensures ∙ ap (is_meant d c.args.which) c.session.ensures in
     let inside : ltb i 64 ≡ true = lt-ltb i 64 (omega arith) in
-    elim c.if-is-meant.branch [
-      | then-is-meant w ↦
+    elim c.if-is_meant.branch [
+      | then-is_meant w ↦
           ap members w.found-is
           ∙ w.with-found.ensures.members
           ∙ cond-true (ltb i 64) _ _ inside
           ∙ ap (put i true) c.loop-session.invariant
-          ∙ marks_yes meant i (sym told ∙ w.if-is-meant.true)
-      | else-is-meant w ↦ ap members w.found-is ∙ c.loop-session.invariant ∙ marks_no meant i (sym told ∙ w.if-is-meant.false)
+          ∙ marks_yes meant i (sym told ∙ w.if-is_meant.true)
+      | else-is_meant w ↦ ap members w.found-is ∙ c.loop-session.invariant ∙ marks_no meant i (sym told ∙ w.if-is_meant.false)
     ]
 
 pub returns : goal.returns

@@ -16,11 +16,11 @@ loop-user-preserved c =
     let now = state_of c.loop-user.self in
     let r = c.args.role in
     let i = c.loop-user.user in (
-      c.put-assigned.ensures.left
-          ∙ ap (λ f. with_assigned (put i f now.assigned) now) (c.without.ensures.members ∙ ap (put r false) c.assigned-roles.ensures)
+      c.put_assigned.ensures.left
+          ∙ ap (λ f. with_assigned (put i f now.assigned) now) (c.without.ensures.members ∙ ap (put r false) c.assigned_roles.ensures)
           ∙ ap (put_assigned i r false) c.loop-user.invariant.0
           ∙ without_more d r i,
-      λ _. c.put-assigned.ensures.past,
+      λ _. c.put_assigned.ensures.past,
     )
 
 pub returns : goal.returns

@@ -1,11 +1,11 @@
 -- Sessions that end one after another.
-use Rattle.std.proofs.Common.{◌≡◌, ℕ, ◌+◌, Bool, true, false, cond, refl, ap, ◌∙◌, inl, inr}
+use Rattle.std.proofs.Common.{◌≡◌, ℕ, ◌+◌, Bool, true, false, cond, ap, ◌∙◌, inl, inr}
 use mathlib.Core.Path.{fun_ext}
 use Rattle.std.proofs.lemmas.Bool.{cases_eq, eq-eqb, ne_eqb}
 use Rattle.bits.specs.Tables.{put}
 use Rattle.vocabulary.specs.Tables.{so_far}
 use Rattle.vocabulary.proofs.Marks.{marks_none, marks_yes, marks_no}
-use Rattle.directory.specs.State.{SessionState, closed, DirectoryState, with_sessions}
+use Rattle.directory.specs.State.{closed, DirectoryState, with_sessions}
 use Rattle.directory.specs.Sessions.{ended}
 use Rattle.directory.specs.Effects.{put_session}
 

@@ -1,4 +1,4 @@
-use Rattle.std.proofs.Common.{◌≡◌, ℕ, sym, ap, ◌∙◌, rules}
+use Rattle.std.proofs.Common.{◌≡◌, sym, ap, ◌∙◌, rules}
 use Rattle.directory.specs.State.{with_inherits}
 use Rattle.directory.specs.Sessions.{sessions_that, reviewed}
 use Rattle.directory.specs.Answers.{delete_inheritance_answer}

@@ -1,10 +1,9 @@
-use Rattle.std.proofs.Common.{◌≡◌, ℕ, false, sym, ap, ◌∙◌, rules}
+use Rattle.std.proofs.Common.{◌≡◌, false, sym, ap, ◌∙◌, rules}
 use Rattle.bits.specs.Tables.{put}
 use Rattle.hierarchy.specs.Edits.{without_role}
 use Rattle.directory.specs.State.{with_roles, with_assigned, with_inherits}
 use Rattle.directory.specs.Sessions.{sessions_that, reviewed}
 use Rattle.directory.specs.Answers.{delete_role_answer}
-use Rattle.directory.specs.Effects.{role_gone}
 use Rattle.directory.specs.View.{state_of}
 use Rattle.directory.specs.declared.session.Which.TheVariants.{Stale}
 use Rattle.directory.proofs.directory.Directory.delete_role.Goals as goal

@@ -1,4 +1,4 @@
-use Rattle.std.proofs.Common.{◌≡◌, ℕ, ◌^◌, ◌<◌, Bool, true, Decides, sym, ap, ◌∙◌, subst, rules}
+use Rattle.std.proofs.Common.{◌≡◌, ◌^◌, ◌<◌, Decides, ap, ◌∙◌, subst, rules}
 use Rattle.bits.specs.Sets.{members, Within}
 use Rattle.hierarchy.specs.Reach.{reach_of}
 use Rattle.bits.proofs.Laws.{members_inside}

@@ -1,4 +1,4 @@
-use Rattle.std.proofs.Common.{◌≡◌, ℕ, Bool, false, refl, ◌∙◌}
+use Rattle.std.proofs.Common.{◌≡◌, ℕ, Bool, false, refl}
 use Rattle.vocabulary.proofs.Lists.{fresh}
 use Rattle.bits.specs.Sets.{members, none}
 use Rattle.bits.proofs.Laws.{zero_none}

@@ -1,4 +1,4 @@
-use Rattle.std.proofs.Common.{◌<◌, ◌≤◌, length, set, ap, arith, length-set, rules}
+use Rattle.std.proofs.Common.{◌<◌, length, set, ap, length-set, rules}
 use Rattle.vocabulary.proofs.Lists.{put_set}
 use Rattle.bits.specs.Sets.{members}
 use Rattle.hierarchy.specs.Inheritance.{no_roles}

@@ -1,10 +1,9 @@
-use Rattle.std.proofs.Common.{◌≡◌, ◌<◌, false, sym, ap, ◌∙◌, arith, rules}
+use Rattle.std.proofs.Common.{◌<◌, false, sym, ap, ◌∙◌, arith}
 use Rattle.bits.specs.Tables.{put}
-use Rattle.bits.specs.Sets.{members}
 use Rattle.directory.specs.State.{with_assigned}
 use Rattle.directory.specs.Effects.{put_assigned}
 use Rattle.directory.specs.View.{state_of}
-use Rattle.directory.proofs.Unassigned.{without_below, without_none, without_more, without_all, without_past}
+use Rattle.directory.proofs.Unassigned.{without_none, without_more, without_all, without_past}
 use Rattle.directory.proofs.directory.Directory.unassign_all.Goals as goal
 
 pub loop-user-init : goal.loop-user-init

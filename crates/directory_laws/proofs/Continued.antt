@@ -1,6 +1,6 @@
 -- What a call leaves of the sessions that were open before it.
-use Rattle.std.proofs.Common.{◌≡◌, ℕ, zero, suc, Bool, true, false, cond, not, ◌&&◌, eqb, ◌⊎◌, sym, refl, ap, ◌∙◌, subst, inl, inr, lit<}
-use Rattle.std.proofs.lemmas.Bool.{cases_eq, cases_Bool, both_ways, eq-eqb, eqb-true, ne_eqb, not-true, and_from, true≢false}
+use Rattle.std.proofs.Common.{◌≡◌, ℕ, zero, suc, Bool, true, false, cond, not, ◌&&◌, eqb, sym, refl, ap, ◌∙◌, subst, inl, inr, lit<}
+use Rattle.std.proofs.lemmas.Bool.{cases_eq, both_ways, eq-eqb, ne_eqb, not-true, and_from, true≢false}
 use Rattle.vocabulary.specs.Questions.{if_accepted}
 use Rattle.bits.specs.Tables.{put}
 use Rattle.vocabulary.specs.Tables.{only}
@@ -10,9 +10,8 @@ use Rattle.directory.specs.State.{SessionState, closed, opened, DirectoryState, 
 use Rattle.directory.specs.Sessions.{sessions_that, ended, reviewed}
 use Rattle.directory.specs.Answers.{is_user, is_session, add_user_answer, delete_user_answer, add_role_answer, delete_role_answer, assign_answer, deassign_answer, add_inheritance_answer, delete_inheritance_answer, open_answer, end_answer, activate_answer, drop_answer}
 use Rattle.directory.specs.Effects.{without_user, role_gone, put_assigned, put_inherits, put_session, switched}
-use Rattle.directory.specs.declared.session.Which.{Which}
 use Rattle.directory.specs.declared.session.Which.TheVariants.{OfUser, Stale}
-use Rattle.directory_laws.specs.Soundness.{names, Continued, Continues}
+use Rattle.directory_laws.specs.Soundness.{names, Continues}
 use Rattle.directory_laws.specs.Steps.{step_ends, after_step}
 use Rattle.directory_laws.specs.declared.call.DirectoryCall.{DirectoryCall}
 use Rattle.directory_laws.specs.declared.call.DirectoryCall.TheVariants.{AddUser, DeleteUser, AddRole, DeleteRole, Assign, Deassign, AddInheritance, DeleteInheritance, OpenSession, EndSession, ActivateRole, DropRole, Authorised}

@@ -1,5 +1,5 @@
 -- A call that takes rights away ends exactly the sessions that have lost one.
-use Rattle.std.proofs.Common.{◌≡◌, ℕ, zero, suc, ◌<◌, Bool, true, false, not, ◌&&◌, ltb, sym, refl, ap, ◌∙◌, subst}
+use Rattle.std.proofs.Common.{◌≡◌, ℕ, zero, suc, true, false, ltb, sym, refl, ap, ◌∙◌, subst}
 use Rattle.std.proofs.lemmas.Bool.{both_ways, and_parts, not-true, true≢false}
 use Rattle.vocabulary.specs.Questions.{if_accepted}
 use Rattle.bits.specs.Sets.{none}
@@ -7,12 +7,11 @@ use Rattle.hierarchy.specs.Inheritance.{Bounded}
 use Rattle.hierarchy.specs.Reach.{reach_of}
 use Rattle.hierarchy.proofs.Reaching.{reach_complete}
 use Rattle.hierarchy.proofs.Subsets.{all_in_not}
-use Rattle.directory.specs.State.{SessionState, closed, opened, DirectoryState, is_open, user_of, active_in}
-use Rattle.directory.specs.Sessions.{is_stale, is_meant, sessions_that, ended, reviewed}
+use Rattle.directory.specs.State.{SessionState, closed, opened, DirectoryState, user_of, active_in}
+use Rattle.directory.specs.Sessions.{is_stale, sessions_that, ended, reviewed}
 use Rattle.directory.specs.Answers.{delete_role_answer, deassign_answer, delete_inheritance_answer}
 use Rattle.directory.specs.Effects.{role_gone, put_assigned, put_inherits}
 use Rattle.directory.specs.declared.session.Which.TheVariants.{Stale}
-use Rattle.directory_laws.specs.Steps.{step_ends, after_step}
 use Rattle.directory_laws.specs.Soundness.{MayActivate, Sound, takes_away, EndsByLoss}
 use Rattle.directory_laws.specs.declared.call.DirectoryCall.{DirectoryCall}
 use Rattle.directory_laws.specs.declared.call.DirectoryCall.TheVariants.{AddUser, DeleteUser, AddRole, DeleteRole, Assign, Deassign, AddInheritance, DeleteInheritance, OpenSession, EndSession, ActivateRole, DropRole, Authorised}

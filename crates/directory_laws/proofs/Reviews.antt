@@ -1,10 +1,9 @@
 -- A review leaves only sessions whose roles their users are authorised for.
-use Rattle.std.proofs.Common.{◌≡◌, ℕ, ◌<◌, Bool, true, false, cond, not, ◌&&◌, ltb, ◌⊎◌, sym, refl, ap, ◌∙◌, subst, inl, inr}
-use Rattle.std.proofs.lemmas.Bool.{cases_Bool, both_ways, and_parts, lt-ltb, not-false, true≢false}
-use Rattle.vocabulary.specs.Tables.{so_far}
+use Rattle.std.proofs.Common.{◌≡◌, ℕ, ◌<◌, Bool, true, false, ltb, ◌⊎◌, sym, refl, ap, ◌∙◌, subst, inl, inr}
+use Rattle.std.proofs.lemmas.Bool.{cases_Bool, and_parts, lt-ltb, not-false, true≢false}
 use Rattle.hierarchy.specs.Inheritance.{Pairs, Bounded}
 use Rattle.hierarchy.specs.Chains.{Above, same, step, Acyclic}
-use Rattle.hierarchy.specs.Reach.{reach_of, all_in}
+use Rattle.hierarchy.specs.Reach.{reach_of}
 use Rattle.hierarchy.proofs.Reaching.{reach_sound}
 use Rattle.hierarchy.proofs.Subsets.{all_in_is}
 use Rattle.directory.specs.State.{SessionState, closed, opened, DirectoryState, is_open, user_of, active_in}

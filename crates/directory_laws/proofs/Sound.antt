@@ -1,21 +1,17 @@
 -- Every call leaves a sound directory sound.
-use Rattle.std.proofs.Common.{◌≡◌, ℕ, ◌<◌, Bool, true, false, cond, not, ◌&&◌, ◌||◌, eqb, ltb, ◌⊎◌, List, sym, refl, ap, ◌∙◌, subst, inl, inr, arith, lit<}
-use Rattle.std.proofs.lemmas.Bool.{cases_eq, both_ways, and_parts, ltb-true, eq-eqb, eqb-true, not-true, not_from_true, or_parts, ne_eqb, true≢false}
-use Rattle.vocabulary.specs.Questions.{if_accepted}
+use Rattle.std.proofs.Common.{◌≡◌, ℕ, ◌<◌, Bool, true, false, not, ◌&&◌, ◌||◌, eqb, ltb, ◌⊎◌, sym, refl, ap, ◌∙◌, subst, inl, inr, arith, lit<}
+use Rattle.std.proofs.lemmas.Bool.{cases_eq, both_ways, and_parts, ltb-true, eq-eqb, not-true, or_parts, true≢false}
 use Rattle.bits.specs.Tables.{put}
 use Rattle.vocabulary.specs.Tables.{only}
 use Rattle.vocabulary.proofs.Questions.{passed, accepted_or_not}
 use Rattle.bits.specs.Sets.{none}
-use Rattle.hierarchy.specs.Inheritance.{Pairs}
-use Rattle.hierarchy.specs.Chains.{Above, Acyclic}
 use Rattle.hierarchy.specs.Reach.{reach_of, above_or_equal}
 use Rattle.hierarchy.specs.Edits.{put_pair, without_role}
 use Rattle.hierarchy.proofs.Circles.{above_more, acyclic_put, acyclic_fewer, acyclic_none}
 use Rattle.hierarchy.proofs.Reaching.{reach_sound, reach_complete}
 use Rattle.hierarchy.proofs.Subsets.{all_in_only}
 use Rattle.directory.specs.State.{SessionState, closed, opened, DirectoryState, bare, is_open, user_of, is_of, active_in, with_users, with_roles}
-use Rattle.directory.specs.Sessions.{authorised, sessions_that, ended, reviewed}
-use Rattle.directory.specs.Answers.{is_user, is_role, is_session}
+use Rattle.directory.specs.Sessions.{authorised, sessions_that, ended}
 use Rattle.directory.specs.Effects.{without_user, role_gone, put_assigned, put_inherits, put_session, switched}
 use Rattle.directory.specs.declared.session.Which.TheVariants.{OfUser}
 use Rattle.directory_laws.specs.Soundness.{MayActivate, Sound}

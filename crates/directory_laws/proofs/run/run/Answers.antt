@@ -5,7 +5,7 @@ use Rattle.directory.specs.State.{bare}
 use Rattle.directory.specs.View.{state_of}
 use Rattle.directory_laws.specs.declared.call.DirectoryCall.TheVariants.{AddUser}
 use Rattle.directory_laws.specs.declared.turn.Turn.{Turn}
-use Rattle.directory_laws.specs.Turns.{Told, as_told, told, with_answer, after_turn}
+use Rattle.directory_laws.specs.Turns.{as_told, told, with_answer, after_turn}
 use Rattle.directory_laws.specs.Soundness.{Sound}
 use Rattle.directory_laws.proofs.Continued.{continues}
 use Rattle.directory_laws.proofs.Losses.{ends_by_loss}

@@ -1,6 +1,6 @@
 -- What a set of records holds, and what its calls answer and leave.
-use Rattle.std.specs.Prelude.{◌≡◌, ℕ, ◌+◌, min, Bool, true, false, cond, not, List, [], ◌∷◌, ◌++◌, length, take, Ok, Err, Result, nat_lt}
-use Rattle.records.specs.Lists.{some, holds, apart, without}
+use Rattle.std.specs.Prelude.{◌≡◌, ℕ, ◌+◌, min, Bool, true, false, cond, List, [], ◌∷◌, ◌++◌, length, take, Ok, Err, Result, nat_lt}
+use Rattle.records.specs.Lists.{holds, apart, without}
 use Rattle.records.specs.declared.set.RecordSet.{RecordSet}
 use Rattle.records.specs.declared.set.SetFault.{SetFault}
 use Rattle.records.specs.declared.set.SetFault.TheVariants.{AlreadyThere, NotThere, NoPlace}

@@ -63,18 +63,18 @@ impl<'a, T: Record + Copy> RecordSet<'a, T> {
     }
 
     pub fn contains(&self, item: &T) -> bool
-        ensures { result ≡ holds equal (records self.now) item.now }
+        ensures { result ≡ holds T.equal (records self.now) item.now }
     {
         rows::any_same(self.as_slice(), item)
     }
 
     // Adds a record behind the others.
     pub fn add(&mut self, item: T) -> Result<(), SetFault>
-        ensures answer { answer_number result ≡ add_answer equal (room self.old) (records self.old) item }
-        ensures left { records self.new ≡ after_add equal (room self.old) (records self.old) item }
+        ensures answer { answer_number result ≡ add_answer T.equal (room self.old) (records self.old) item }
+        ensures left { records self.new ≡ after_add T.equal (room self.old) (records self.old) item }
         ensures room { room self.new ≡ room self.old }
-        ensures apart { apart equal (records self.old) ≡ true → apart equal (records self.new) ≡ true }
-        ensures gains { is_ok result ≡ true → Gains equal (records self.old) (records self.new) item }
+        ensures apart { apart T.equal (records self.old) ≡ true → apart T.equal (records self.new) ≡ true }
+        ensures gains { is_ok result ≡ true → Gains T.equal (records self.old) (records self.new) item }
     {
         if self.contains(&item) {
             return Err(SetFault::AlreadyThere);
@@ -90,12 +90,12 @@ impl<'a, T: Record + Copy> RecordSet<'a, T> {
 
     // Takes out the record that is the same as this one; the others keep their order, without a gap.
     pub fn remove(&mut self, item: &T) -> Result<(), SetFault>
-        ensures answer { answer_number result ≡ remove_answer equal (records self.old) item.now }
-        ensures left { records self.new ≡ without equal (records self.old) item.now }
+        ensures answer { answer_number result ≡ remove_answer T.equal (records self.old) item.now }
+        ensures left { records self.new ≡ without T.equal (records self.old) item.now }
         ensures room { room self.new ≡ room self.old }
-        ensures apart { apart equal (records self.old) ≡ true → apart equal (records self.new) ≡ true }
+        ensures apart { apart T.equal (records self.old) ≡ true → apart T.equal (records self.new) ≡ true }
         ensures refused { is_ok result ≡ false → records self.new ≡ records self.old }
-        ensures loses { is_ok result ≡ true → Loses equal (records self.old) (records self.new) item.now }
+        ensures loses { is_ok result ≡ true → Loses T.equal (records self.old) (records self.new) item.now }
     {
         let before = self.len();
         self.keep_only(&Others { item: *item });
@@ -107,11 +107,11 @@ impl<'a, T: Record + Copy> RecordSet<'a, T> {
 
     // Takes out every record that names the thing; the others keep their order, without a gap.
     pub fn strike(&mut self, thing: Thing)
-        ensures left { records self.new ≡ filter (λ y. not (naming y thing)) (records self.old) }
+        ensures left { records self.new ≡ filter (λ y. not (T.naming y thing)) (records self.old) }
         ensures room { room self.new ≡ room self.old }
-        ensures apart { apart equal (records self.old) ≡ true → apart equal (records self.new) ≡ true }
-        ensures many { length (records self.new) + length (filter (λ y. naming y thing) (records self.old)) ≡ length (records self.old) }
-        ensures struck { some (λ y. naming y thing) (records self.new) ≡ false }
+        ensures apart { apart T.equal (records self.old) ≡ true → apart T.equal (records self.new) ≡ true }
+        ensures many { length (records self.new) + length (filter (λ y. T.naming y thing) (records self.old)) ≡ length (records self.old) }
+        ensures struck { some (λ y. T.naming y thing) (records self.new) ≡ false }
     {
         self.keep_only(&Unnamed { thing });
     }

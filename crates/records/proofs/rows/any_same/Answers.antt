@@ -1,6 +1,6 @@
 use Rattle.std.proofs.Common.{◌≡◌, ◌+◌, true, false, ◌||◌, drop, sym, ap, ◌∙◌, arith}
 use Rattle.std.proofs.lemmas.List.{drop_all}
-use Rattle.records.specs.Lists.{some, holds}
+use Rattle.records.specs.Lists.{some}
 use Rattle.records.proofs.Sets.{some_at}
 use Rattle.records.proofs.rows.any_same.Goals as goal
 

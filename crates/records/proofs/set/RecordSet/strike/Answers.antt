@@ -1,4 +1,4 @@
-use Rattle.std.proofs.Common.{◌≡◌, ◌+◌, true, false, not, length, filter, sym, ap, ◌∙◌, subst}
+use Rattle.std.proofs.Common.{◌+◌, not, length, filter, ap, ◌∙◌}
 use Rattle.std.proofs.lemmas.Bool.{not-true}
 use Rattle.records.specs.Lists.{some, apart}
 use Rattle.records.specs.Sets.{records}
@@ -11,10 +11,10 @@ returns g c =
     let naming = g.T.Record.naming in
     let thing = c.args.thing in
     let xs = records c.args.self.now in
-    let left = c.keep-only.ensures.left in
+    let left = c.keep_only.ensures.left in
     record {
       left = left;
-      room = c.keep-only.ensures.room;
+      room = c.keep_only.ensures.room;
       apart = λ a. ap (apart equal) left ∙ apart_kept equal (λ y. not (naming y thing)) xs a;
       many = ap (λ l. length l + length (filter (λ y. naming y thing) xs)) left ∙ kept_and_dropped (λ y. naming y thing) xs;
       struck = ap (some (λ y. naming y thing)) left ∙ some_kept_none (λ y. naming y thing) (λ y. not (naming y thing)) (λ y. not-true (naming y thing)) xs;

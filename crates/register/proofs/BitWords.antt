@@ -4,12 +4,11 @@ use mathlib.Core.Path.{fun_ext}
 use lib.ListN.{length-replicate}
 use Rattle.std.proofs.lemmas.List.{get_or-set_same, get_or-set_other, get_or-replicate, get_or_past}
 use Rattle.std.proofs.lemmas.Bool.{cases_Bool, cases_lt, both_ways, and_parts, and_from, and_left, and_right, eqb-true, eq-eqb, ltb-true, cond-true, cond-false}
-use Rattle.std.proofs.lemmas.Bool.Decides.{nat_tests}
 use Rattle.bits.proofs.Bits.{has_zero}
 use Rattle.bits.specs.Sets.{types, none}
 use Rattle.bits.specs.Tables.{put}
 use Rattle.bits.specs.declared.narrow.TypeSet.{TypeSet}
-use Rattle.register.specs.Meaning.{Consents, Register, in_range, same, put_one, no_owner, no_pair}
+use Rattle.register.specs.Meaning.{Consents, Register, in_range, same, put_one}
 use Rattle.register.specs.BitMeaning.{entries_in, no_types}
 
 nothing : (x : Bool) → false ≡ cond x false false

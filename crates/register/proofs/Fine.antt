@@ -1,9 +1,9 @@
 -- What is true of every list register, and what keeps it so.
-use Rattle.std.proofs.Common.{◌≡◌, ℕ, ◌+◌, ◌*◌, ◌/◌, ◌%◌, ◌<◌, ◌≤◌, min, Bool, true, false, cond, not, ◌&&◌, eqb, ltb, leb, ◌≢◌, List, [], ◌∷◌, ◌++◌, length, filter, sym, refl, ap, ◌∙◌, subst, ⊎_elim, arith}
+use Rattle.std.proofs.Common.{◌≡◌, ℕ, ◌+◌, ◌*◌, ◌/◌, ◌%◌, ◌<◌, ◌≤◌, Bool, true, false, cond, ◌&&◌, eqb, ltb, List, [], ◌∷◌, ◌++◌, length, filter, sym, refl, ap, ◌∙◌, ⊎_elim, arith}
 use mathlib.Core.Path.{fun_ext}
-use Rattle.std.proofs.lemmas.Bool.{cases_Bool, cases_eq, both_ways, and_parts, and_from, cond-true, cond-false, eqb-true, ltb-true, ltb-false, le-ltb, and_left, and_right}
+use Rattle.std.proofs.lemmas.Bool.{cases_Bool, cases_eq, both_ways, and_parts, cond-true, cond-false, eqb-true, and_left, and_right}
 use Rattle.records.specs.Kinds.{same_consent}
-use Rattle.records.specs.Lists.{apart, holds, without}
+use Rattle.records.specs.Lists.{apart, without}
 use Rattle.records.specs.Sets.{fault_number}
 use Rattle.records.specs.declared.set.SetFault.{SetFault}
 use Rattle.records.specs.declared.set.SetFault.TheVariants.{AlreadyThere, NotThere, NoPlace}
@@ -12,7 +12,7 @@ use Rattle.records.proofs.Sets.{apart_kept}
 use Rattle.register.specs.Meaning.{Consents, Register, in_range, same, owned, put_one, no_owner, no_pair}
 use Rattle.register.specs.Answers.{after_erase, after_strike}
 use Rattle.register.specs.ListMeaning.{consent, entries_of, share, list_meaning, Inside, Under}
-use Rattle.register.proofs.BitWords.{Parts, parts}
+use Rattle.register.proofs.BitWords.{parts}
 use Rattle.register.proofs.Lists.{entries_kept, entries_struck, entries_push, owned_put, owned_other, count_mono, roomy}
 
 -- a list in n places that is a register

@@ -1,15 +1,15 @@
 -- What a list of consents holds, how many of an owner, and how many at all.
-use Rattle.std.proofs.Common.{◌≡◌, ℕ, zero, suc, ◌+◌, ◌*◌, ◌/◌, ◌%◌, ◌<◌, ◌≤◌, Bool, true, false, cond, not, ◌&&◌, ◌||◌, eqb, ltb, ◌≢◌, List, [], ◌∷◌, ◌++◌, length, get_or, drop, filter, sym, refl, ap, ◌∙◌, subst, ⊎_elim, mul-suc, arith}
+use Rattle.std.proofs.Common.{◌≡◌, ℕ, zero, suc, ◌+◌, ◌*◌, ◌/◌, ◌%◌, ◌<◌, ◌≤◌, Bool, true, false, cond, not, ◌&&◌, ◌||◌, eqb, ◌≢◌, List, [], ◌∷◌, ◌++◌, length, get_or, drop, filter, sym, refl, ap, ◌∙◌, subst, ⊎_elim, mul-suc, arith}
 use mathlib.Core.Path.{fun_ext}
 use Rattle.std.proofs.lemmas.List.{drop_more}
-use Rattle.std.proofs.lemmas.Bool.{cases_Bool, cases_eq, both_ways, and_parts, and_from, and_left, and_right, or_parts, or_left, or_right, or_from, eqb-true, eq-eqb, ne_eqb, ltb-true, cond-true, cond-false, not-true, not_from_false}
+use Rattle.std.proofs.lemmas.Bool.{cases_Bool, cases_eq, and_parts, and_from, and_left, or_left, or_right, eqb-true, eq-eqb, ne_eqb, cond-true, cond-false, not-true}
 use Rattle.std.proofs.lemmas.Bool.Decides.{nat_tests}
 use Rattle.bits.specs.Tables.{one, count_below}
 use Rattle.records.specs.Kinds.{same_consent}
-use Rattle.records.specs.Lists.{some, holds, apart}
+use Rattle.records.specs.Lists.{holds, apart}
 use Rattle.records.specs.declared.kinds.Consent.{Consent}
 use Rattle.records.proofs.Sets.{some_push}
-use Rattle.register.specs.Meaning.{Consents, in_range, same, owned, put_one}
+use Rattle.register.specs.Meaning.{Consents, same, owned, put_one}
 use Rattle.register.specs.ListMeaning.{consent, of_owner, entries_of, Inside, Under}
 use Rattle.register.proofs.BitWords.{Parts, parts}
 

@@ -1,5 +1,5 @@
 -- What the calls of a register answer, by number, and what they leave.
-use Rattle.std.specs.Prelude.{ℕ, Bool, true, false, cond, not, ◌&&◌, Ok, Err, Result, nat_le, nat_lt}
+use Rattle.std.specs.Prelude.{ℕ, true, false, cond, not, ◌&&◌, Ok, Err, Result, nat_le, nat_lt}
 use Rattle.register.specs.Meaning.{Register, held, counted, owned, in_range, put_one, no_owner, no_pair}
 use Rattle.register.specs.declared.fault.RegisterFault.{RegisterFault}
 use Rattle.register.specs.declared.fault.RegisterFault.TheVariants.{OutOfRange, AlreadyGiven, NotGiven, Full}

@@ -1,5 +1,5 @@
 -- What the words of a bit register mean: for each owner and purpose a set of data types.
-use Rattle.std.specs.Prelude.{ℕ, ◌+◌, ◌*◌, Bool, ◌&&◌, List, slice_index_or}
+use Rattle.std.specs.Prelude.{◌+◌, ◌*◌, ◌&&◌, List, slice_index_or}
 use Rattle.bits.specs.Sets.{types}
 use Rattle.bits.specs.declared.narrow.TypeSet.{TypeSet}
 use Rattle.register.specs.Meaning.{Consents, Register, in_range}

@@ -1,9 +1,6 @@
-use Rattle.std.proofs.Common.{◌≡◌, ℕ, ◌+◌, ◌*◌, true, false, cond, ◌&&◌, eqb, length, get_or, set, sym, ap, ◌∙◌, arith, rules}
-use Rattle.std.proofs.lemmas.Bool.{and_parts, and_from, cond-true, lt-ltb}
-use Rattle.bits.specs.Sets.{types}
-use Rattle.bits.specs.Tables.{put}
-use Rattle.register.specs.Meaning.{Consents, in_range, put_one}
-use Rattle.register.specs.BitMeaning.{entries_in, no_types}
+use Rattle.std.proofs.Common.{◌≡◌, ℕ, false, cond, ◌&&◌, eqb, length, set, sym, ap, ◌∙◌, arith, rules}
+use Rattle.std.proofs.lemmas.Bool.{cond-true, lt-ltb}
+use Rattle.register.specs.BitMeaning.{entries_in}
 use Rattle.register.proofs.BitWords.{word_emptied, entries_inside, same_register}
 use Rattle.register.proofs.Sweeps.{purposes_none, purposes_more, purposes_all}
 use Rattle.register.proofs.bit_consents.BitRegisterConsentRegister.erase.Goals as goal
@@ -19,10 +16,10 @@ loop-purpose-preserved c =
     let k = c.loop-purpose.purpose in
     let v = c.empty.result in
     let long : length words ≡ 2048 = search rules in
-    let is : (a b d : ℕ) → entries_in (set words c.word-of.result v) a b d ≡ cond (eqb a o && eqb b k) false (entries_in words a b d) =
-    λ a b d. ap (λ n. entries_in (set words n v) a b d) c.word-of.ensures.value ∙ word_emptied words o k v long (omega arith) (omega arith) c.empty.ensures.members a b d
+    let is : (a b d : ℕ) → entries_in (set words c.word_of.result v) a b d ≡ cond (eqb a o && eqb b k) false (entries_in words a b d) =
+    λ a b d. ap (λ n. entries_in (set words n v) a b d) c.word_of.ensures.value ∙ word_emptied words o k v long (omega arith) (omega arith) c.empty.ensures.members a b d
     in
-    purposes_more (entries_in before) (entries_inside before) (entries_in words) (entries_in (set words c.word-of.result v)) o k c.loop-purpose.invariant is
+    purposes_more (entries_in before) (entries_inside before) (entries_in words) (entries_in (set words c.word_of.result v)) o k c.loop-purpose.invariant is
 
 pub returns-after-loop-purpose : goal.returns-after-loop-purpose
 returns-after-loop-purpose c =

@@ -1,5 +1,5 @@
-use Rattle.std.proofs.Common.{◌≡◌, ◌+◌, ◌*◌, true, false, cond, not, ◌&&◌, length, get_or, set, sym, ap, ◌∙◌, arith, rules}
-use Rattle.std.proofs.lemmas.Bool.{cond-true, cond-false, lt-ltb, not_from_true}
+use Rattle.std.proofs.Common.{◌≡◌, ◌+◌, ◌*◌, true, false, ◌&&◌, length, get_or, set, sym, ap, ◌∙◌, rules}
+use Rattle.std.proofs.lemmas.Bool.{cond-true, cond-false, not_from_true}
 use Rattle.bits.specs.Sets.{types}
 use Rattle.bits.specs.Tables.{put}
 use Rattle.register.specs.Meaning.{in_range}
@@ -12,13 +12,13 @@ returns c =
     let words = c.args.self.now.words in
     let o = c.args.owner in
     let q = c.args.purpose in
-    let t = c.args.data-type in
+    let t = c.args.data_type in
     let v = c.without.result in
-    let inside : in_range o q t ≡ true = sym c.if-not-in-range.ensures in
+    let inside : in_range o q t ≡ true = sym c.if-not-in_range.ensures in
     let in_parts = parts o q t inside in
-    let at = c.word-of-at.ensures.value in
+    let at = c.word_of-at.ensures.value in
     let long : length words ≡ 2048 = search rules in
-    let old : get_or words c.word-of-at.result no_types ≡ get_or words (16 * o + q) no_types = ap (λ n. get_or words n no_types) at in
+    let old : get_or words c.word_of-at.result no_types ≡ get_or words (16 * o + q) no_types = ap (λ n. get_or words n no_types) at in
     let has-it : entries_in words o q t ≡ true = (λ i. inside i && (ap (λ w. types w t) (sym old) ∙ sym c.if-not-contains.ensures) i) in
     let is : types v ≡ put t false (types (get_or words (16 * o + q) no_types)) = c.without.ensures.members ∙ ap (λ w. put t false (types w)) old in
     record {

@@ -1,6 +1,3 @@
-use Rattle.std.proofs.Common.{◌≡◌, false, ◌&&◌, sym, ap, ◌∙◌}
-use Rattle.std.proofs.lemmas.Bool.{and_right}
-use Rattle.register.specs.Meaning.{in_range}
 use Rattle.register.proofs.BitWords.{empty_words}
 use Rattle.register.proofs.bit_register.BitRegister.new.Goals as goal
 

@@ -1,10 +1,10 @@
 -- One owner's entry, put to whatever value, is nothing to the other owners.
-use Rattle.std.proofs.Common.{◌≡◌, ℕ, ◌/◌, ◌%◌, Bool, true, false, cond, not, ◌&&◌, eqb, leb, refl, ap}
+use Rattle.std.proofs.Common.{◌≡◌, ℕ, ◌/◌, ◌%◌, Bool, true, false, cond, not, eqb, leb, refl, ap}
 use mathlib.Core.Path.{fun_ext}
 use Rattle.std.proofs.lemmas.Bool.{cond-false, and_left, ne_eqb}
 use Rattle.bits.specs.Tables.{count_below}
 use Rattle.register.specs.Meaning.{Consents, Register, held, counted, owned, in_range, put_one}
-use Rattle.register.specs.Answers.{give_answer, withdraw_answer, after_give, after_withdraw}
+use Rattle.register.specs.Answers.{after_give, after_withdraw}
 use Rattle.register_laws.specs.Owners.{AlikeToOthers}
 
 module _ (o : ℕ) (m n : Register) (limits : n.limit ≡ m.limit) (elsewhere : (a q t : ℕ) → (a ≡ o → ⊥) → n.entries a q t ≡ m.entries a q t) where

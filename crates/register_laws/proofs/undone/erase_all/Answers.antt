@@ -1,4 +1,4 @@
-use Rattle.std.proofs.Common.{◌≡◌, ◌+◌, sym, ap, ◌∙◌, subst, arith}
+use Rattle.std.proofs.Common.{◌+◌, sym, ap, ◌∙◌, subst, arith}
 use Rattle.register.specs.Meaning.{Register}
 use Rattle.register_laws.specs.Owners.{HoldsNothingBelow}
 use Rattle.register_laws.proofs.Emptied.{limit_kept, one_more, all_out}

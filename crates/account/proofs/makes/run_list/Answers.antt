@@ -3,4 +3,4 @@ use Rattle.account.proofs.makes.run_list.Goals as goal
 
 pub returns : goal.returns
 unfolding entries_of
-returns c = c.in-ok-open-list.ensures
+returns c = c.in_ok-open_list.ensures.opened

@@ -1,5 +1,4 @@
 use Rattle.std.proofs.Common.{◌≡◌, suc, ◌+◌, ◌<◌, length, get_or, set, refl, ap, ◌∙◌, arith}
-use Rattle.records.specs.declared.kinds.Consent.{Consent}
 use Rattle.account.specs.declared.entry.Entry.{Entry}
 use Rattle.account.specs.declared.entry.Step.TheVariants.{Give}
 use Rattle.account.specs.Steps.{after_step, with_answer}

@@ -158,14 +158,14 @@ mod tests {
                 owner: 2,
                 purpose: 5,
                 data_type: 2,
-            },)
+            })
         );
         assert!(rt;
             !set.contains(&Consent {
                 owner: 2,
                 purpose: 2,
                 data_type: 5,
-            },)
+            })
         );
     }
 

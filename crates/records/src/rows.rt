@@ -5,6 +5,7 @@ ghost use Rattle.records.specs.Lists.{holds};
 use crate::record::{Record, Thing};
 
 // Whether some record is the same as this one.
+#[tactic(auto, using(crate::proofs::Sets::some_at))]
 pub(crate) fn any_same<T: Record>(rows: &[T], item: &T) -> bool
     ensures { result ≡ holds T.Record.equal rows.now item.now }
 {

@@ -1,5 +1,5 @@
 -- A command is told by its kind and its fields, and the table of field counts agrees with the layout of every command.
-use Rattle.std.proofs.Common.{◌≡◌, ℕ, Bool, true, cond, ◌&&◌, eqb, List, [], ◌∷◌, length, get_or, sym, refl, ap, ◌∙◌}
+use Rattle.std.proofs.Common.{◌≡◌, ℕ, Bool, true, cond, ◌&&◌, eqb, length, get_or, sym, refl, ap, ◌∙◌}
 use Rattle.calls.specs.Layout.{Layout, layout, directory_layout, consent_layout, session_layout, question_layout, known, field_count}
 use Rattle.calls.specs.declared.command.Command.{Command}
 use Rattle.calls.specs.declared.command.Command.TheVariants as command

@@ -1,5 +1,5 @@
 -- An answer changes its own entry's answer and nothing else.
-use Rattle.std.proofs.Common.{◌≡◌, ℕ, ◌+◌, ◌-◌, ◌*◌, ◌/◌, ◌%◌, ◌≤◌, cond, not, eqb, ltb, leb, List, [], ◌∷◌, ◌++◌, length, take, drop, set, sym, refl, ap, ◌∙◌, append_assoc, arith, length-append, length-set}
+use Rattle.std.proofs.Common.{◌≡◌, ℕ, ◌+◌, ◌-◌, ◌*◌, ◌/◌, ◌%◌, cond, not, eqb, ltb, leb, List, ◌∷◌, ◌++◌, length, take, drop, set, sym, ap, ◌∙◌, append_assoc, arith, length-append, length-set}
 use Rattle.std.proofs.lemmas.List.{drop_at, drop-drop, set-append_right}
 use Rattle.calls.specs.Layout.{known, field_count}
 use Rattle.book.specs.Format.{word, answered}

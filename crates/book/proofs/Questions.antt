@@ -1,9 +1,9 @@
 -- A reading finds a record exactly where every question is answered yes.
-use Rattle.std.proofs.Common.{◌≡◌, ℕ, ◌+◌, ◌-◌, ◌*◌, ◌<◌, ◌≤◌, Bool, true, false, cond, not, eqb, ltb, leb, List, length, sym, refl, ap, ◌∙◌, arith}
+use Rattle.std.proofs.Common.{◌≡◌, ℕ, ◌+◌, ◌-◌, ◌*◌, ◌<◌, ◌≤◌, Bool, true, false, cond, not, eqb, ltb, leb, List, length, refl, ◌∙◌, arith}
 use Rattle.std.proofs.lemmas.Bool.{cond-false, le-ltb, lt-leb, eq-eqb, ltb-false, leb-false, eqb-true, not-false, not_from_true}
 use Rattle.calls.specs.Layout.{known, field_count}
 use Rattle.book.specs.Format.{word}
-use Rattle.book.specs.Reading.{Found, ends, faulty, found, fields_at, reading}
+use Rattle.book.specs.Reading.{ends, faulty, found, fields_at, reading}
 
 -- a record stands whole at the byte at
 pub record Passes (bs : List ℕ) (at : ℕ) : Type 0 where

@@ -5,7 +5,7 @@ use Rattle.calls.specs.Layout.{layout}
 use Rattle.calls.specs.declared.command.Command.{Command}
 use Rattle.calls.specs.declared.command.Family.{Family}
 use Rattle.calls.specs.declared.command.Family.TheVariants as family
-use Rattle.book.specs.Format.{word_bytes, record_bytes}
+use Rattle.book.specs.Format.{record_bytes}
 use Rattle.book.specs.Reading.{found, reading, is_record}
 use Rattle.book.specs.Handed.{kind_of, bytes_of}
 use Rattle.book.specs.Handed as handed

@@ -1,12 +1,11 @@
 -- Entries that tile a book: one more at the end, the first one taken off, and that there is one way only.
-use Rattle.std.proofs.Common.{◌≡◌, ℕ, suc, ◌+◌, ◌-◌, ◌*◌, ◌/◌, ◌%◌, ◌<◌, ◌≤◌, true, false, eqb, List, [], ◌∷◌, ◌++◌, length, get_or, take, drop, sym, refl, ap, ◌∙◌, subst, ⊎_elim, append_assoc, append-nil, add-zero, add_assoc, arith, length-append, take-append-drop}
+use Rattle.std.proofs.Common.{◌≡◌, ℕ, ◌+◌, ◌*◌, ◌/◌, ◌%◌, ◌≤◌, true, false, eqb, List, [], ◌∷◌, ◌++◌, length, get_or, take, drop, sym, refl, ap, ◌∙◌, subst, ⊎_elim, append_assoc, append-nil, arith, length-append, take-append-drop}
 use Rattle.std.proofs.lemmas.List.{take_at, drop_at, drop-drop}
 use Rattle.std.proofs.lemmas.Bool.{and_parts, eqb-true, both_ways, cases_lt}
-use Rattle.calls.specs.Layout.{Layout, layout, laid, known, field_count, family_of}
-use Rattle.calls.specs.declared.command.Command.{Command}
+use Rattle.calls.specs.Layout.{layout, laid, known, field_count, family_of}
 use Rattle.calls.proofs.Told.{layout_counts, same_command}
-use Rattle.book.specs.Format.{word_bytes, record_bytes}
-use Rattle.book.specs.Reading.{Found, found, reading, is_record}
+use Rattle.book.specs.Format.{word_bytes}
+use Rattle.book.specs.Reading.{found, reading, is_record}
 use Rattle.book.specs.Framing.{Stands}
 use Rattle.book.specs.Tiling.{Entry, entry_bytes, book_bytes, Tiles, Stops, counted, tallied}
 use Rattle.book.specs.declared.types.Tally.{Tally}

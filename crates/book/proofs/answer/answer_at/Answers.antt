@@ -1,4 +1,4 @@
-use Rattle.std.proofs.Common.{◌≡◌, ◌+◌, ◌-◌, ◌≤◌, cond, length, sym, ap, ◌∙◌, subst, arith}
+use Rattle.std.proofs.Common.{◌+◌, ◌-◌, ◌≤◌, length, sym, ap, ◌∙◌, subst, arith}
 use borrow.Rule.Slice.PartMut.{put_mid}
 use Rattle.std.proofs.lemmas.Bool.{cond-true}
 use Rattle.book.specs.Format.{answered}
@@ -18,7 +18,7 @@ returns c =
     let filed = c.in-Record.ensures.filed in
     let inside : at + size ≤ length bs = omega (arith, c.size-size.ensures, filed.inside) in
     let after =
-    ap (put_mid at size bs) c.put-answer.ensures
+    ap (put_mid at size bs) c.put_answer.ensures
     ∙ answered_part at size bs inside c.word.result (omega (arith, c.size-size.ensures))
     ∙ ap (answered bs at) c.word.ensures
     in

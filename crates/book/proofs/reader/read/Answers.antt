@@ -5,4 +5,4 @@ use Rattle.book.proofs.reader.read.Goals as goal
 pub returns : goal.returns
 returns c =
     let reads = c.ask.ensures.reads in
-    record { reads = reads; framed = framed (λ i. omega (arith, c.type-inv.book i)) reads; filed = c.ask.ensures.filed }
+    record { reads = reads; framed = framed (λ i. omega (arith, c.type_inv.book i)) reads; filed = c.ask.ensures.filed }

@@ -11,11 +11,11 @@ loop-i-preserved c =
     let i = c.loop-i.i in
     let bytes = c.args.bytes.now in
     let within : i < length words = omega (arith, c.loop-i.invariant.0) in
-    let kept = length-set words i c.word-at.result in (
+    let kept = length-set words i c.word_at.result in (
       kept ∙ c.loop-i.invariant.0,
       take_more _ i 0 (omega (arith, kept))
-          ∙ (λ j. take-set-le i words i c.word-at.result (omega arith) j ++ get_or-set_same words i c.word-at.result 0 within j ∷ [])
-          ∙ (λ j. c.loop-i.invariant.1 j ++ c.word-at.ensures j ∷ [])
+          ∙ (λ j. take-set-le i words i c.word_at.result (omega arith) j ++ get_or-set_same words i c.word_at.result 0 within j ∷ [])
+          ∙ (λ j. c.loop-i.invariant.1 j ++ c.word_at.ensures j ∷ [])
           ∙ sym (words_more i bytes)
           ∙ ap (λ n. words_of n bytes) (sym (add-one i)),
     )
@@ -26,4 +26,4 @@ returns c =
     let bytes = c.args.bytes.now in
     ap (λ n. word_bytes (take n c.loop-i.words)) end
     ∙ ap word_bytes c.loop-i.invariant.1
-    ∙ bytes_of_words c.loop-i.i bytes (omega arith) (λ i. omega (arith, c.type-inv.bytes i))
+    ∙ bytes_of_words c.loop-i.i bytes (omega arith) (λ i. omega (arith, c.type_inv.bytes i))

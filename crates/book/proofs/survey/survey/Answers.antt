@@ -1,4 +1,4 @@
-use Rattle.std.proofs.Common.{◌≡◌, ◌+◌, [], ◌∷◌, ◌++◌, IfSome, sym, refl, ap, ◌∙◌, subst, arith}
+use Rattle.std.proofs.Common.{◌≡◌, ◌+◌, [], ◌∷◌, ◌++◌, IfSome, sym, ap, ◌∙◌, subst, arith}
 use Rattle.calls.specs.Layout.{family_of}
 use Rattle.book.specs.Commanded.{Asks}
 use Rattle.book.specs.Tiling.{counted, tallied, none_yet}

@@ -1,4 +1,4 @@
-use Rattle.std.proofs.Common.{◌≡◌, ◌+◌, ◌/◌, ◌%◌, [], ◌∷◌, ◌++◌, length, decimal, sym, ap, ◌∙◌, append_assoc, arith, length-append}
+use Rattle.std.proofs.Common.{◌+◌, ◌/◌, ◌%◌, [], ◌∷◌, ◌++◌, length, decimal, sym, ap, ◌∙◌, append_assoc, arith, length-append}
 use Rattle.std.proofs.lemmas.Fmt.{decimal_digit, decimal_step, decimal_nonempty}
 use Rattle.lines.specs.Lines.{text}
 use Rattle.lines.proofs.line.Line.+put_digits.Goals as goal
@@ -14,15 +14,15 @@ returns-then-n-lt10 t c =
       len = omega (arith, ap length e, c.put.ensures.len);
     }
 
-pub put-digits-requires : goal.put-digits-requires
-put-digits-requires t c =
+pub put_digits-requires : goal.put_digits-requires
+put_digits-requires t c =
     let e = ap length (decimal_step c.args.n (omega arith) (omega arith)) in
     (omega arith, omega (arith, simp length-append at e))
 
 pub put-requires-2 : goal.put-requires-2
 put-requires-2 t c =
     let e = ap length (decimal_step c.args.n (omega arith) (omega arith)) in
-    omega (arith, simp length-append at e, c.put-digits.ensures.len)
+    omega (arith, simp length-append at e, c.put_digits.ensures.len)
 
 pub returns : goal.returns
 returns t c =
@@ -32,8 +32,8 @@ returns t c =
     record {
       text =
           c.put-2.ensures.text
-          ∙ ap (λ l. l ++ (48 + n % 10) ∷ []) c.put-digits.ensures.text
+          ∙ ap (λ l. l ++ (48 + n % 10) ∷ []) c.put_digits.ensures.text
           ∙ append_assoc before (decimal (n / 10)) _
           ∙ ap (λ l. before ++ l) (sym e);
-      len = omega (arith, simp length-append at (ap length e), c.put-2.ensures.len, c.put-digits.ensures.len);
+      len = omega (arith, simp length-append at (ap length e), c.put-2.ensures.len, c.put_digits.ensures.len);
     }

@@ -2,10 +2,10 @@ use Rattle.std.proofs.Common.{◌≤◌, length, decimal, arith}
 use Rattle.std.proofs.lemmas.Fmt.{length-decimal-le}
 use Rattle.lines.proofs.line.Line.put_number.Goals as goal
 
-pub put-digits-requires : goal.put-digits-requires
-put-digits-requires c = omega (arith, length-decimal-le 20 c.args.n (omega arith) (omega arith) (omega arith))
+pub put_digits-requires : goal.put_digits-requires
+put_digits-requires c = omega (arith, length-decimal-le 20 c.args.n (omega arith) (omega arith) (omega arith))
 
 pub returns : goal.returns
 returns c =
     let twenty : length (decimal c.args.n) ≤ 20 = length-decimal-le 20 c.args.n (omega arith) (omega arith) (omega arith) in
-    record { text = c.put-digits.ensures.text; len = omega (arith, c.put-digits.ensures.len) }
+    record { text = c.put_digits.ensures.text; len = omega (arith, c.put_digits.ensures.len) }

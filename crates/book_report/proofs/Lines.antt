@@ -1,5 +1,5 @@
 -- The lines of the entries, one after another.
-use Rattle.std.proofs.Common.{◌≡◌, ℕ, ◌+◌, ◌≤◌, List, [], ◌∷◌, ◌++◌, length, drop, sym, refl, ap, ◌∙◌, append_assoc, append-nil, arith, length-append}
+use Rattle.std.proofs.Common.{◌≡◌, ℕ, ◌+◌, ◌≤◌, List, [], ◌∷◌, ◌++◌, length, drop, sym, ap, ◌∙◌, append_assoc, append-nil, arith, length-append}
 use Rattle.book.specs.Tiling.{Entry, entry_bytes, book_bytes, Tiles}
 use Rattle.book_report.specs.Report.{record_lines}
 use Rattle.lines.specs.Lines.{command_line}

@@ -1,5 +1,5 @@
 -- What is printed of a book: a line for each record, how many there are of each family, and where it ends.
-use Rattle.std.specs.Prelude.{◌≡◌, ℕ, ◌+◌, ◌-◌, ◌*◌, cond, List, [], ◌∷◌, ◌++◌, length, drop, codes, decimal, nat_lt}
+use Rattle.std.specs.Prelude.{◌≡◌, ℕ, ◌+◌, ◌*◌, cond, List, [], ◌∷◌, ◌++◌, length, drop, codes, decimal, nat_lt}
 use Rattle.calls.specs.Layout.{field_count}
 use Rattle.calls.specs.declared.command.Family.TheVariants as family
 use Rattle.book.specs.Format.{word}

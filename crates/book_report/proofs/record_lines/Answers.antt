@@ -1,7 +1,6 @@
-use Rattle.std.proofs.Common.{◌≡◌, ◌+◌, [], ◌∷◌, ◌++◌, IfSome, vec_items, sym, ap, ◌∙◌, subst, arith}
+use Rattle.std.proofs.Common.{◌+◌, [], ◌∷◌, ◌++◌, IfSome, sym, ap, ◌∙◌, subst, arith}
 use Rattle.book.specs.Commanded.{Asks}
-use Rattle.book.proofs.Surveyed.{Walked, walk_none, walk_more, walk_stops, read_entry}
-use Rattle.book_report.specs.Report.{record_lines}
+use Rattle.book.proofs.Surveyed.{Walked, walk_none, walk_more, read_entry}
 use Rattle.book_report.proofs.Lines.{lines_more}
 use Rattle.lines.specs.Lines.{command_line}
 use Rattle.book_report.proofs.record_lines.Goals as goal
@@ -25,8 +24,8 @@ loop-record-preserved c =
       (
         es ++ it.entry ∷ [],
         walked,
-        c.in-ok-put-line.ensures
-            ∙ (λ i. so_far.2 i ++ (c.command-line.ensures ∙ ap (command_line at) (sym it.asks)) i)
+        c.in_ok-put_line.ensures
+            ∙ (λ i. so_far.2 i ++ (c.command_line.ensures ∙ ap (command_line at) (sym it.asks)) i)
             ∙ sym (lines_more 0 es it.entry at so_far.1.tiles.long),
       ),
     )

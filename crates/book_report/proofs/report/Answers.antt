@@ -1,11 +1,11 @@
-use Rattle.std.proofs.Common.{◌≡◌, ◌++◌, ap, ◌∙◌, append_assoc}
+use Rattle.std.proofs.Common.{◌++◌, ap, ◌∙◌, append_assoc}
 use Rattle.book.specs.Tiling.{stop_place}
 use Rattle.book_report.specs.Report.{record_lines, count_lines, closing}
 use Rattle.book_report.proofs.Lines.{tiles_within}
 use Rattle.book_report.proofs.report.Goals as goal
 
-pub put-closing-requires : goal.put-closing-requires
-put-closing-requires c =
+pub put_closing-requires : goal.put_closing-requires
+put_closing-requires c =
     let surveyed = c.survey-survey.ensures in
     tiles_within c.args.book.now surveyed.entries (stop_place c.survey-survey.result.ending) surveyed.tiles
 
@@ -13,15 +13,15 @@ pub returns : goal.returns
 returns c =
     let survey = c.survey-survey.result in
     let surveyed = c.survey-survey.ensures in
-    let listed = c.in-ok-out.ensures in
+    let listed = c.in_ok-out.ensures in
     let entries = (surveyed.only listed.entries listed.to listed.tiles listed.stops).0 in
     let lines = record_lines 0 surveyed.entries in
     record {
       survey = survey;
       surveyed = surveyed;
       text =
-          c.in-ok-put-closing.ensures
+          c.in_ok-put_closing.ensures
           ∙ ap (λ l. l ++ closing c.args.book.now survey.ending)
-          (c.in-ok-put-counts.ensures ∙ ap (λ l. l ++ count_lines survey.tally) (listed.lines ∙ ap (record_lines 0) entries))
+          (c.in_ok-put_counts.ensures ∙ ap (λ l. l ++ count_lines survey.tally) (listed.lines ∙ ap (record_lines 0) entries))
           ∙ append_assoc lines (count_lines survey.tally) (closing c.args.book.now survey.ending);
     }

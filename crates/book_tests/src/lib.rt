@@ -166,15 +166,18 @@ mod tests {
         );
         assert_eq!(rt;
             answer_line(0, 1, Outcome::Accepted).as_bytes(),
-            b"0 1 ok\n"
+            b"0 1 ok\n".as_slice()
         );
-        assert_eq!(rt; answer_line(8, 1, refused).as_bytes(), b"8 1 no kernel 9\n");
-        assert_eq!(rt; bad_line(16, LENGTH).as_bytes(), b"bad 16 21\n");
-        assert_eq!(rt; end_line(65_536).as_bytes(), b"end 65536\n");
+        assert_eq!(rt;
+            answer_line(8, 1, refused).as_bytes(),
+            b"8 1 no kernel 9\n".as_slice()
+        );
+        assert_eq!(rt; bad_line(16, LENGTH).as_bytes(), b"bad 16 21\n".as_slice());
+        assert_eq!(rt; end_line(65_536).as_bytes(), b"end 65536\n".as_slice());
         let text = report(rt.alloc(), &book[16..21])?;
         assert_eq!(rt;
             text.as_slice(),
-            b"directory 0\nconsent 0\nsession 0\nquestion 0\nThe record at byte 0 is cut short: only 5 of at least 6 bytes remain.\nbad 0 21\n"
+            b"directory 0\nconsent 0\nsession 0\nquestion 0\nThe record at byte 0 is cut short: only 5 of at least 6 bytes remain.\nbad 0 21\n".as_slice()
         );
         Ok(())
     }

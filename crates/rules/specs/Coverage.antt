@@ -1,10 +1,8 @@
 -- When a use is covered. This is the one place that says so: a draw and an entry both look here.
-use Rattle.std.specs.Prelude.{◌≡◌, ℕ, ◌<◌, Bool, true, ◌&&◌, List, ◌==◌}
+use Rattle.std.specs.Prelude.{◌≡◌, ℕ, ◌<◌, Bool, true, ◌&&◌, ◌==◌}
 use Rattle.vocabulary.specs.Tables.{some_below}
 use Rattle.register.specs.Meaning.{Consents}
 use Rattle.records.specs.Lists.{some}
-use Rattle.records.specs.declared.kinds.PlainGrant.{PlainGrant}
-use Rattle.records.specs.declared.kinds.PrivateGrant.{PrivateGrant}
 use Rattle.directory.specs.State.{is_open, active_in}
 use Rattle.ledger.specs.declared.place.Use.{Use}
 use Rattle.rules.specs.State.{ObjectState, belongs_to, types_of, Tables}

@@ -1,5 +1,5 @@
 -- What an accepted call changes: the tables, one word, the ledgers.
-use Rattle.std.specs.Prelude.{ℕ, ◌+◌, Bool, true, false, cond, not, ◌&&◌, List, [], ◌∷◌, ◌++◌, filter}
+use Rattle.std.specs.Prelude.{ℕ, ◌+◌, Bool, true, false, cond, not, List, [], ◌∷◌, ◌++◌, filter}
 use Rattle.bits.specs.Tables.{put}
 use Rattle.bits.specs.Sets.{has}
 use Rattle.records.specs.Kinds.{same_plain, same_private, names_plain, names_private}
@@ -13,13 +13,12 @@ use Rattle.register.specs.Answers.{after_give, after_withdraw, after_erase, afte
 use Rattle.directory.specs.State.{DirectoryState}
 use Rattle.directory.specs.Effects.{after_add_user, delete_user_ends, after_delete_user, after_add_role, delete_role_ends, after_delete_role, after_assign, deassign_ends, after_deassign, after_add_inheritance, delete_inheritance_ends, after_delete_inheritance, after_open, end_ends, after_end, after_activate, after_drop}
 use Rattle.ledger.specs.Places.{Permits, permits_of}
-use Rattle.ledger.specs.States.{LedgerState, drawn, closed}
+use Rattle.ledger.specs.States.{drawn, closed}
 use Rattle.ledger.specs.Table.{Table}
 use Rattle.ledger.specs.declared.place.Closing.{Closing}
 use Rattle.ledger.specs.declared.place.Closing.TheVariants.{Entry, HandingBack, Lapse}
 use Rattle.ledger.specs.declared.place.Use.{Use}
 use Rattle.ledger.specs.declared.place.Which.TheVariants.{Serial, All}
-use Rattle.calls.specs.declared.command.Command.{Command}
 use Rattle.calls.specs.declared.command.Command.TheVariants.{Directory as DirectoryFamily, Consent as ConsentFamily, Session as SessionFamily, Question as QuestionFamily}
 use Rattle.calls.specs.declared.command.Directory.{Directory}
 use Rattle.calls.specs.declared.command.Directory.TheVariants.{AddUser, DeleteUser, AddRole, DeleteRole, Assign, Deassign, AddInheritance, DeleteInheritance, AddPlainObject, AddPersonalObject, DeleteObject, GrantPlain, RevokePlain, GrantPrivate, RevokePrivate, AddOwner, DeleteOwner}

@@ -1,14 +1,14 @@
 -- The number that each call is answered: its questions in their order, and the first no decides.
-use Rattle.std.specs.Prelude.{ℕ, zero, suc, min, Bool, false, not, ◌&&◌, List, [], ◌∷◌, length, is_some, Some, None, Option, ◌==◌, nat_lt}
+use Rattle.std.specs.Prelude.{ℕ, min, Bool, false, not, ◌&&◌, List, [], ◌∷◌, length, is_some, Some, None, Option, ◌==◌, nat_lt}
 use Rattle.vocabulary.specs.Questions.{Question, asks, first_no, if_accepted}
 use Rattle.records.specs.Kinds.{same_plain, same_private}
 use Rattle.records.specs.Lists.{holds}
 use Rattle.records.specs.declared.kinds.PlainGrant.{PlainGrant}
 use Rattle.records.specs.declared.kinds.PrivateGrant.{PrivateGrant}
-use Rattle.register.specs.Meaning.{Consents, in_range}
+use Rattle.register.specs.Meaning.{in_range}
 use Rattle.register.specs.Answers.{give_answer, withdraw_answer}
 use Rattle.directory.specs.State.{is_open}
-use Rattle.directory.specs.Answers.{is_user, is_role, is_session, add_user_answer, delete_user_answer, add_role_answer, delete_role_answer, assign_answer, deassign_answer, add_inheritance_answer, delete_inheritance_answer, open_answer, end_answer, activate_answer, drop_answer, authorised_answer}
+use Rattle.directory.specs.Answers.{is_role, is_session, add_user_answer, delete_user_answer, add_role_answer, delete_role_answer, assign_answer, deassign_answer, add_inheritance_answer, delete_inheritance_answer, open_answer, end_answer, activate_answer, drop_answer, authorised_answer}
 use Rattle.ledger.specs.declared.place.Use.{Use}
 use Rattle.calls.specs.declared.command.Command.{Command}
 use Rattle.calls.specs.declared.command.Command.TheVariants.{Directory as DirectoryFamily, Consent as ConsentFamily, Session as SessionFamily, Question as QuestionFamily}

@@ -1,12 +1,10 @@
 -- The rules: what a call is answered, what it leaves, and whom it concerns.
-use Rattle.std.specs.Prelude.{◌≡◌, ℕ, zero, suc, ◌+◌, Bool, true, false, cond, ◌&&◌, List, [], ◌∷◌, Option, ◌==◌}
+use Rattle.std.specs.Prelude.{ℕ, zero, suc, ◌+◌, Bool, false, cond, ◌==◌}
 use Rattle.vocabulary.specs.Questions.{first_no, if_accepted}
 use Rattle.ledger.specs.Places.{permits_of}
 use Rattle.ledger.specs.Table.{Table}
 use Rattle.ledger.specs.declared.place.Closing.TheVariants.{Lapse}
-use Rattle.ledger.specs.declared.place.Use.{Use}
 use Rattle.ledger.specs.declared.place.Which.TheVariants.{Serial}
-use Rattle.calls.specs.declared.command.Command.{Command}
 use Rattle.calls.specs.declared.command.Command.TheVariants.{Directory as DirectoryFamily, Consent as ConsentFamily, Session as SessionFamily, Question as QuestionFamily}
 use Rattle.calls.specs.declared.command.Consent.{Consent}
 use Rattle.calls.specs.declared.command.Consent.TheVariants.{Offer, Retract, Give, Withdraw}
@@ -16,7 +14,7 @@ use Rattle.calls.specs.declared.command.Session.{Session}
 use Rattle.calls.specs.declared.command.Session.TheVariants.{Open, End, ActivateRole, DropRole, AccessPlain, Use as UseCommand, Look}
 use Rattle.rules.specs.Told.{Values, no_values, permit_values, count_values, Told, accepted, refused}
 use Rattle.rules.specs.State.{belongs_to, owner_of, Tables, State, Bounds}
-use Rattle.rules.specs.Views.{LedgerView, View, view}
+use Rattle.rules.specs.Views.{View, view}
 use Rattle.rules.specs.Numbers.{give_asked, withdraw_asked, number}
 use Rattle.rules.specs.Effects.{tables_after, register_after, ledgers_after, closed_in}
 use Rattle.rules.specs.declared.call.Call.{Call}

@@ -1,6 +1,5 @@
 -- What an answer tells: its number, its layer, and the values that it carries.
 use Rattle.std.specs.Prelude.{ℕ}
-use Rattle.ledger.specs.declared.counts.Counts.{Counts}
 use Rattle.register.specs.Answers.{fault_number as registerNumber}
 use Rattle.rules.specs.declared.answer.Answer.{Answer}
 use Rattle.rules.specs.declared.answer.Answer.TheVariants.{Accepted, Permit, Counts as CountsAnswer, Refused}

@@ -1,13 +1,12 @@
 -- What the number of an answer tells of the questions.
-use Rattle.std.proofs.Common.{◌≡◌, ℕ, zero, suc, ◌<◌, Bool, true, false, cond, not, ◌&&◌, ltb, leb, is_some, sym, refl, ap, ◌∙◌, inl, inr, arith, lit<}
-use Rattle.std.proofs.lemmas.Bool.{cases_Bool, not-true, not-false, true≢false}
+use Rattle.std.proofs.Common.{◌≡◌, ℕ, zero, suc, Bool, true, false, cond, not, ltb, leb, refl, arith, lit<}
 use Rattle.vocabulary.specs.Questions.{if_accepted}
 use Rattle.vocabulary.proofs.Questions.{passed}
 use Rattle.register.specs.Meaning.{Register, held, counted, owned, in_range}
 use Rattle.register.specs.Answers.{give_answer, withdraw_answer}
 use Rattle.directory.specs.State.{is_open}
 use Rattle.ledger.specs.declared.place.Use.{Use}
-use Rattle.rules.specs.State.{exists, is_personal, owner_of, Bounds}
+use Rattle.rules.specs.State.{exists, is_personal, owner_of}
 use Rattle.rules.specs.Views.{View}
 use Rattle.rules.specs.Coverage.{holds_private, agrees}
 use Rattle.rules.specs.Numbers.{use_in_range, draw_number}

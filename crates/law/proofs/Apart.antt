@@ -1,15 +1,14 @@
 -- What one owner gives and withdraws, nobody else can tell.
-use Rattle.std.proofs.Common.{◌≡◌, ℕ, zero, suc, Bool, true, false, cond, ◌&&◌, eqb, List, [], ◌∷◌, sym, refl, ap, ◌∙◌, subst, inl, inr}
+use Rattle.std.proofs.Common.{◌≡◌, ℕ, zero, suc, Bool, true, false, cond, eqb, List, [], ◌∷◌, sym, refl, ap, ◌∙◌, subst, inl, inr}
 use mathlib.Core.Path.{fun_ext}
 use mathlib.Core.Option.{Option, none, some}
-use Rattle.std.proofs.lemmas.Bool.{cases_Bool, eqb-true, ne_eqb, eq-eqb, and_left, true≢false, both_ways}
+use Rattle.std.proofs.lemmas.Bool.{cases_Bool, eqb-true, ne_eqb, true≢false}
 use Rattle.vocabulary.specs.Questions.{if_accepted, is_accepted}
 use Rattle.register.specs.Meaning.{same}
 use Rattle.ledger.specs.States.{LedgerState}
 use Rattle.calls.specs.declared.command.Command.TheVariants.{Directory as DirectoryFamily, Consent as ConsentFamily, Session as SessionFamily, Question as QuestionFamily}
 use Rattle.calls.specs.declared.command.Consent.TheVariants.{Offer, Retract, Give, Withdraw}
 use Rattle.calls.specs.declared.command.Session.TheVariants.{Open, End, ActivateRole, DropRole, AccessPlain, Use as UseCommand, Look}
-use Rattle.calls.specs.declared.command.Question.TheVariants.{Authorised, Consented}
 use Rattle.rules.specs.Told.{Values, Told, accepted, refused}
 use Rattle.rules.specs.State.{ObjectState, absent, plain, personal, belongs_to, owner_of, Tables, State, Bounds, bare_state}
 use Rattle.rules.specs.Views.{View, view, ledger_view}

@@ -1,15 +1,13 @@
 -- Right after a draw that was accepted its permit can be entered or handed back.
-use Rattle.std.proofs.Common.{◌≡◌, ℕ, zero, suc, ◌+◌, ◌<◌, Bool, true, false, cond, ◌&&◌, eqb, ltb, List, [], ◌∷◌, is_some, Some, None, Option, sym, refl, ap, ◌∙◌, subst}
+use Rattle.std.proofs.Common.{◌≡◌, ℕ, true, cond, List, [], ◌∷◌, is_some, Some, ap, ◌∙◌}
 use Rattle.std.proofs.lemmas.Bool.{lt-ltb, ltb-true}
-use Rattle.vocabulary.specs.Questions.{if_accepted}
-use Rattle.bits.specs.Tables.{put}
 use Rattle.vocabulary.proofs.Puts.{put_here}
 use Rattle.ledger.specs.Places.{usage_in}
-use Rattle.ledger.specs.States.{LedgerState, opens, drawn, Sound}
+use Rattle.ledger.specs.States.{drawn, Sound}
 use Rattle.ledger.specs.declared.place.Use.{Use}
 use Rattle.ledger.proofs.Once.{drawn_usage}
-use Rattle.rules.specs.State.{belongs_to, owner_of, State, Bounds, bare_state}
-use Rattle.rules.specs.Views.{View, view}
+use Rattle.rules.specs.State.{State, Bounds, bare_state}
+use Rattle.rules.specs.Views.{view}
 use Rattle.rules.specs.Coverage.{covers}
 use Rattle.rules.specs.Numbers.{is_owner, draw_number, covers_permit, number}
 use Rattle.rules.specs.Rules.{after, next}
@@ -20,7 +18,6 @@ use Rattle.law.specs.Histories.{state_after, state_of}
 use Rattle.law.proofs.Accepted.{draw_passed}
 use Rattle.law.proofs.Covering.{own_object, passed_covers}
 use Rattle.law.proofs.Keeps.{history_as}
-use Rattle.law.proofs.Ledgers.{Kept}
 use Rattle.law.proofs.SoundTables.{bare_tables_sound, next_tables}
 
 module _ (k : Bounds) (s : State) (sound : SoundTables s.tables) (ledgers : (o : ℕ) → Sound (s.ledgers o)) (u : Use) (yes' : draw_number (view s) u ≡ 0) where

@@ -1,14 +1,13 @@
 -- What a draw and an entry are accepted for, in words.
-use Rattle.std.proofs.Common.{◌≡◌, ℕ, ◌<◌, Bool, true, false, cond, ◌&&◌, eqb, ltb, is_some, sym, refl, ap, ◌∙◌, subst, inl, inr, arith, lit<}
-use Rattle.std.proofs.lemmas.Bool.{and_parts, and_from, eq-eqb, eqb-true, lt-ltb, ltb-true, true≢false}
-use Rattle.vocabulary.specs.Tables.{some_below}
+use Rattle.std.proofs.Common.{◌≡◌, ℕ, ◌<◌, true, cond, ◌&&◌, is_some, sym, refl, ap, ◌∙◌, lit<}
+use Rattle.std.proofs.lemmas.Bool.{and_parts, and_from, eq-eqb, lt-ltb, ltb-true, true≢false}
 use Rattle.vocabulary.proofs.Questions.{passed}
 use Rattle.vocabulary.proofs.Some.{some_is, some_from}
 use Rattle.register.specs.Meaning.{Consents}
 use Rattle.directory.specs.State.{is_open}
 use Rattle.hierarchy.specs.Laws.{Exactly}
 use Rattle.ledger.specs.declared.place.Use.{Use}
-use Rattle.ledger_laws.specs.Fates.{Fate, NeverIssued, StillOpen, WasEntered, WasHandedBack, HasLapsed, is_still_open, open_use, how_many}
+use Rattle.ledger_laws.specs.Fates.{Fate, NeverIssued, StillOpen, WasEntered, WasHandedBack, HasLapsed, open_use}
 use Rattle.rules.specs.State.{ObjectState, absent, plain, personal, exists, is_personal, belongs_to, owner_of, types_of, Tables, Bounds}
 use Rattle.rules.specs.Views.{View}
 use Rattle.rules.specs.Coverage.{holds_private, agrees, covers, Covered}

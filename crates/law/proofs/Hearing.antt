@@ -1,27 +1,23 @@
 -- Two states that are alike but for one owner answer alike whatever does not concern that owner.
-use Rattle.std.proofs.Common.{◌≡◌, ℕ, zero, suc, ◌+◌, Bool, true, false, cond, not, ◌&&◌, eqb, ltb, sym, refl, ap, ◌∙◌, subst, inl, inr, arith}
-use mathlib.Core.Path.{fun_ext}
-use Rattle.std.proofs.lemmas.Bool.{cases_Bool, eqb-true, eqb-false, eq-eqb, ne_eqb, true≢false, both_ways}
+use Rattle.std.proofs.Common.{◌≡◌, ℕ, zero, suc, ◌+◌, Bool, true, false, cond, ◌&&◌, eqb, ltb, sym, refl, ap, ◌∙◌, arith}
+use Rattle.std.proofs.lemmas.Bool.{eqb-false, eq-eqb, both_ways}
 use Rattle.vocabulary.specs.Questions.{if_accepted}
 use Rattle.vocabulary.specs.Tables.{some_below}
 use Rattle.register.specs.Meaning.{Consents, owned}
 use Rattle.ledger.specs.declared.place.Use.{Use}
 use Rattle.calls.specs.declared.command.Command.TheVariants.{Directory as DirectoryFamily, Consent as ConsentFamily, Session as SessionFamily, Question as QuestionFamily}
-use Rattle.calls.specs.declared.command.Directory.{Directory}
-use Rattle.calls.specs.declared.command.Directory.TheVariants.{AddUser, DeleteUser, AddRole, DeleteRole, Assign, Deassign, AddInheritance, DeleteInheritance, AddPlainObject, AddPersonalObject, DeleteObject, GrantPlain, RevokePlain, GrantPrivate, RevokePrivate, AddOwner, DeleteOwner}
 use Rattle.calls.specs.declared.command.Consent.TheVariants.{Offer, Retract, Give, Withdraw}
 use Rattle.calls.specs.declared.command.Session.{Session}
 use Rattle.calls.specs.declared.command.Session.TheVariants.{Open, End, ActivateRole, DropRole, AccessPlain, Use as UseCommand, Look}
 use Rattle.calls.specs.declared.command.Question.TheVariants.{Authorised, Consented}
-use Rattle.rules.specs.Told.{Values, Told, no_values, permit_values, accepted, refused}
-use Rattle.rules.specs.State.{ObjectState, absent, plain, personal, exists, is_personal, belongs_to, owner_of, Tables, State, Bounds}
-use Rattle.rules.specs.Views.{LedgerView, View, view, ledger_view}
+use Rattle.rules.specs.Told.{Values, no_values, permit_values, accepted, refused}
+use Rattle.rules.specs.State.{ObjectState, absent, plain, personal, exists, is_personal, belongs_to, owner_of, Bounds}
+use Rattle.rules.specs.Views.{LedgerView, View}
 use Rattle.rules.specs.Coverage.{agrees}
-use Rattle.rules.specs.Numbers.{use_of, draw_number, number}
+use Rattle.rules.specs.Numbers.{use_of, draw_number}
 use Rattle.rules.specs.Rules.{answer, concerns}
 use Rattle.rules.specs.declared.call.Call.{Call}
 use Rattle.rules.specs.declared.call.Call.TheVariants.{Command as CommandCall, Draw, Enter, HandBack, Ledger}
-use Rattle.law.specs.Law.{Alike}
 
 -- views that are alike but for one owner
 pub record AlikeViews (o : ℕ) (v w : View) : Type 0 where

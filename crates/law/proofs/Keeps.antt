@@ -1,11 +1,11 @@
 -- What the kernel's state says is what the account says, and every call keeps it so.
-use Rattle.std.proofs.Common.{◌≡◌, ℕ, zero, suc, ◌+◌, ◌<◌, Bool, true, false, cond, ◌&&◌, eqb, ltb, List, [], ◌∷◌, is_some, count_by, sym, refl, ap, ◌∙◌, subst, inl, inr, arith}
+use Rattle.std.proofs.Common.{◌≡◌, ℕ, zero, suc, ◌+◌, ◌<◌, Bool, true, false, cond, eqb, List, [], ◌∷◌, is_some, count_by, sym, refl, ap, ◌∙◌, subst, inl, inr, arith}
 use mathlib.Core.Path.{fun_ext}
 use Rattle.std.proofs.lemmas.Bool.{cases_Bool, eqb-true, ltb-true}
 use Rattle.vocabulary.specs.Questions.{if_accepted, is_accepted}
 use Rattle.bits.specs.Tables.{put, one}
 use Rattle.vocabulary.proofs.Puts.{put_same}
-use Rattle.register.specs.Meaning.{Consents, Register, held}
+use Rattle.register.specs.Meaning.{Consents, Register}
 use Rattle.directory.specs.Effects.{delete_user_ends, delete_role_ends, deassign_ends, delete_inheritance_ends, end_ends}
 use Rattle.ledger.specs.Places.{Permits, meets, usage_in, permits_of}
 use Rattle.ledger.specs.States.{LedgerState, opens, drawn, closed}
@@ -21,13 +21,13 @@ use Rattle.calls.specs.declared.command.Command.TheVariants.{Directory as Direct
 use Rattle.calls.specs.declared.command.Directory.TheVariants.{AddUser, DeleteUser, AddRole, DeleteRole, Assign, Deassign, AddInheritance, DeleteInheritance, AddPlainObject, AddPersonalObject, DeleteObject, GrantPlain, RevokePlain, GrantPrivate, RevokePrivate, AddOwner, DeleteOwner}
 use Rattle.calls.specs.declared.command.Session.TheVariants.{Open, End, ActivateRole, DropRole, AccessPlain, Use as UseCommand, Look}
 use Rattle.rules.specs.State.{owner_of, Tables, State, Bounds, bare_state}
-use Rattle.rules.specs.Views.{View, view, LedgerView, ledger_view, register_in}
+use Rattle.rules.specs.Views.{view, LedgerView, ledger_view, register_in}
 use Rattle.rules.specs.Numbers.{is_owner, use_of, draw_number, covers_permit, number}
-use Rattle.rules.specs.Effects.{register_after, of_sessions, closed_in, drawn_in, drawn_and_closed, tables_after, ledgers_after}
-use Rattle.rules.specs.Rules.{answer, ledgers_refused, next}
+use Rattle.rules.specs.Effects.{register_after, of_sessions, closed_in, tables_after, ledgers_after}
+use Rattle.rules.specs.Rules.{ledgers_refused, next}
 use Rattle.rules.specs.declared.call.Call.{Call}
 use Rattle.rules.specs.declared.call.Call.TheVariants.{Command as CommandCall, Draw, Enter, HandBack, Ledger}
-use Rattle.law.specs.Account.{Event, Past, leaves, latest, bears, tables_of, stands, permits, fates_accepted, fates_refused, ledger_of, account_view}
+use Rattle.law.specs.Account.{Past, leaves, latest, bears, tables_of, stands, permits, fates_accepted, fates_refused, ledger_of, account_view}
 use Rattle.law.specs.Histories.{event, state_after, past_after, state_of, past_of}
 use Rattle.law.proofs.Accepted.{draw_passed}
 use Rattle.law.proofs.Ledgers.{Kept, empty_sound, closed_kept, drawn_kept, put_kept}

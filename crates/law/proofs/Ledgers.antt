@@ -1,9 +1,9 @@
 -- A ledger that is sound and as the account has it stays so, whatever a call does to it.
-use Rattle.std.proofs.Common.{◌≡◌, ℕ, ◌+◌, ◌<◌, Bool, true, false, cond, eqb, List, length, count_by, sym, refl, ap, ◌∙◌, subst, inl, inr, arith}
+use Rattle.std.proofs.Common.{ℕ, ◌+◌, ◌<◌, cond, eqb, sym, refl, ◌∙◌, subst, inl, inr, arith}
 use Rattle.std.proofs.lemmas.List.{length-map}
 use Rattle.std.proofs.lemmas.Bool.{cases_Bool, eqb-true}
 use Rattle.bits.specs.Tables.{put}
-use Rattle.ledger.specs.Places.{Permits, meets, permits_of}
+use Rattle.ledger.specs.Places.{Permits}
 use Rattle.ledger.specs.States.{LedgerState, empty_ledger, opens, drawn, closed, Sound}
 use Rattle.ledger.specs.Table.{Table}
 use Rattle.ledger.specs.declared.place.Closing.{Closing}

@@ -1,18 +1,18 @@
 -- Every point of every history.
-use Rattle.std.proofs.Common.{◌≡◌, ℕ, zero, suc, Bool, true, false, cond, eqb, List, sym, refl, ap, ◌∙◌, subst, inl, inr, arith}
+use Rattle.std.proofs.Common.{◌≡◌, ℕ, zero, suc, List, sym, refl, ap, ◌∙◌}
 use Rattle.std.proofs.lemmas.Bool.{ne_eqb}
 use Rattle.hierarchy.specs.Laws.{Exactly}
 use Rattle.ledger.specs.Table.{Table}
 use Rattle.rules.specs.State.{State, Bounds}
 use Rattle.rules.specs.Views.{View, view}
 use Rattle.rules.specs.Numbers.{number, use_of}
-use Rattle.rules.specs.Rules.{answer, ledgers_refused, after, next}
+use Rattle.rules.specs.Rules.{answer, ledgers_refused, after}
 use Rattle.rules.specs.declared.call.Call.{Call}
 use Rattle.rules.specs.declared.call.Call.TheVariants.{Command as CommandCall, Draw, Enter, HandBack, Ledger}
 use Rattle.law.specs.Account.{account_view}
 use Rattle.law.specs.Histories.{state_of, past_of}
-use Rattle.law.specs.Law.{Drawable, Enterable, Answered, Point}
-use Rattle.law.proofs.Keeps.{As, history_as, view_as}
+use Rattle.law.specs.Law.{Drawable, Enterable, Point}
+use Rattle.law.proofs.Keeps.{history_as, view_as}
 use Rattle.law.proofs.Covering.{draw_exactly, enter_exactly}
 
 -- a refused call leaves everything, unless it is an entry that is refused with 19

@@ -1,9 +1,8 @@
 -- What a call leaves of one owner's words and ledger depends on these alone.
-use Rattle.std.proofs.Common.{◌≡◌, ℕ, zero, suc, ◌+◌, Bool, true, false, cond, ◌&&◌, eqb, sym, refl, ap, ◌∙◌, subst, inl, inr}
-use Rattle.std.proofs.lemmas.Bool.{cases_Bool, eqb-true, eqb-false, ne_eqb, and_left, true≢false}
+use Rattle.std.proofs.Common.{◌≡◌, ℕ, zero, suc, ◌+◌, true, cond, eqb, sym, refl, ap, ◌∙◌, subst, inl, inr}
+use Rattle.std.proofs.lemmas.Bool.{cases_Bool, eqb-true}
 use Rattle.vocabulary.specs.Questions.{if_accepted, is_accepted}
 use Rattle.bits.specs.Tables.{put}
-use Rattle.register.specs.Meaning.{Register, same}
 use Rattle.directory.specs.Effects.{delete_user_ends, delete_role_ends, deassign_ends, delete_inheritance_ends, end_ends}
 use Rattle.ledger.specs.Places.{Permits, permits_of}
 use Rattle.ledger.specs.States.{LedgerState, drawn, closed}

@@ -1,6 +1,6 @@
 -- Every accepted call leaves sound tables sound.
-use Rattle.std.proofs.Common.{◌≡◌, ℕ, zero, suc, ◌<◌, Bool, true, false, cond, not, ◌&&◌, eqb, ltb, ◌⊎◌, List, [], sym, refl, ap, ◌∙◌, subst, inl, inr, arith, lit<}
-use Rattle.std.proofs.lemmas.Bool.{cases_eq, cases_Bool, and_parts, eqb-true, eq-eqb, ltb-true, true≢false}
+use Rattle.std.proofs.Common.{◌≡◌, ℕ, Bool, true, false, cond, not, ◌&&◌, eqb, ◌⊎◌, List, sym, ap, ◌∙◌, inl, inr, arith, lit<}
+use Rattle.std.proofs.lemmas.Bool.{cases_eq, cases_Bool, eqb-true, eq-eqb, ltb-true, true≢false}
 use Rattle.vocabulary.specs.Questions.{if_accepted}
 use Rattle.bits.specs.Tables.{put}
 use Rattle.vocabulary.proofs.Puts.{put_at, put_other, put_keeps, put_cases, put_left, put_stays}
@@ -16,8 +16,8 @@ use Rattle.calls.specs.declared.command.Command.TheVariants.{Directory as Direct
 use Rattle.calls.specs.declared.command.Directory.TheVariants.{AddUser, DeleteUser, AddRole, DeleteRole, Assign, Deassign, AddInheritance, DeleteInheritance, AddPlainObject, AddPersonalObject, DeleteObject, GrantPlain, RevokePlain, GrantPrivate, RevokePrivate, AddOwner, DeleteOwner}
 use Rattle.calls.specs.declared.command.Consent.TheVariants.{Offer, Retract, Give, Withdraw}
 use Rattle.calls.specs.declared.command.Session.TheVariants.{Open, End, ActivateRole, DropRole, AccessPlain, Use as UseCommand, Look}
-use Rattle.rules.specs.State.{ObjectState, absent, plain, personal, exists, belongs_to, Tables, State, Bounds, bare_tables}
-use Rattle.rules.specs.Views.{View, view}
+use Rattle.rules.specs.State.{ObjectState, absent, plain, personal, exists, belongs_to, State, Bounds, bare_tables}
+use Rattle.rules.specs.Views.{view}
 use Rattle.rules.specs.Numbers.{is_object, is_owner, number}
 use Rattle.rules.specs.Effects.{tables_after}
 use Rattle.rules.specs.declared.call.Call.{Call}

@@ -1,21 +1,20 @@
 -- The register's triples stay those of the account.
-use Rattle.std.proofs.Common.{◌≡◌, ℕ, zero, suc, Bool, true, false, cond, not, ◌&&◌, eqb, ltb, ◌∷◌, sym, refl, ap, ◌∙◌, subst, lit<}
+use Rattle.std.proofs.Common.{◌≡◌, ℕ, Bool, true, false, cond, ◌&&◌, eqb, sym, refl, subst, lit<}
 use mathlib.Core.Path.{fun_ext}
-use Rattle.std.proofs.lemmas.Bool.{and_parts}
-use Rattle.vocabulary.specs.Questions.{first_no, if_accepted, is_accepted}
+use Rattle.vocabulary.specs.Questions.{first_no}
 use Rattle.vocabulary.proofs.Questions.{passed}
 use Rattle.register.specs.Meaning.{Consents, Register, same, put_one, no_owner, no_pair}
 use Rattle.register.specs.Answers.{give_answer, withdraw_answer, after_give, after_withdraw, after_erase, after_strike}
 use Rattle.calls.specs.declared.command.Command.TheVariants.{Directory as DirectoryFamily, Consent as ConsentFamily, Session as SessionFamily, Question as QuestionFamily}
 use Rattle.calls.specs.declared.command.Directory.TheVariants.{AddUser, DeleteUser, AddRole, DeleteRole, Assign, Deassign, AddInheritance, DeleteInheritance, AddPlainObject, AddPersonalObject, DeleteObject, GrantPlain, RevokePlain, GrantPrivate, RevokePrivate, AddOwner, DeleteOwner}
 use Rattle.calls.specs.declared.command.Consent.TheVariants.{Offer, Retract, Give, Withdraw}
-use Rattle.rules.specs.State.{Tables, Bounds}
+use Rattle.rules.specs.State.{Bounds}
 use Rattle.rules.specs.Views.{View, register_in}
 use Rattle.rules.specs.Numbers.{is_purpose, is_type, is_owner, give_asked, withdraw_asked, number}
 use Rattle.rules.specs.Effects.{register_after}
 use Rattle.rules.specs.declared.call.Call.{Call}
 use Rattle.rules.specs.declared.call.Call.TheVariants.{Command as CommandCall, Draw, Enter, HandBack, Ledger}
-use Rattle.law.specs.Account.{Past, Bearing, gives, ends, leaves, latest, bears, stands}
+use Rattle.law.specs.Account.{Bearing, gives, ends, leaves, latest, bears}
 use Rattle.law.proofs.Accepted.{both_accepted, give_passed, withdraw_passed}
 
 -- what the register's entries are after an accepted call, and that its limit never changes

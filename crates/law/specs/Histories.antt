@@ -1,9 +1,9 @@
 -- Histories: any list of calls on a bare kernel.
-use Rattle.std.specs.Prelude.{ℕ, Bool, cond, List, [], ◌∷◌}
+use Rattle.std.specs.Prelude.{ℕ, cond, List, [], ◌∷◌}
 use Rattle.std.proofs.Math.Option.{Option, none, some}
 use Rattle.vocabulary.specs.Questions.{is_accepted}
 use Rattle.rules.specs.Told.{Told}
-use Rattle.rules.specs.State.{Tables, State, Bounds, bare_state}
+use Rattle.rules.specs.State.{State, Bounds, bare_state}
 use Rattle.rules.specs.Views.{view}
 use Rattle.rules.specs.Numbers.{number}
 use Rattle.rules.specs.Rules.{answer, next, speaks, concerns}

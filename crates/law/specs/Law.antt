@@ -1,23 +1,18 @@
 -- The law of histories.
-use Rattle.std.specs.Prelude.{◌≡◌, ℕ, ◌+◌, ◌<◌, Bool, true, false, ◌≢◌, List, []}
+use Rattle.std.specs.Prelude.{◌≡◌, ℕ, ◌+◌, ◌<◌, true, ◌≢◌, List}
 use Rattle.hierarchy.specs.Laws.{Exactly}
-use Rattle.ledger.specs.Places.{permits_of}
-use Rattle.ledger.specs.declared.place.Closing.TheVariants.{Lapse}
 use Rattle.ledger.specs.declared.place.Use.{Use}
-use Rattle.ledger.specs.declared.place.Which.TheVariants.{Serial}
 use Rattle.ledger_laws.specs.Fates.{StillOpen, is_still_open, how_many, Accounted}
 use Rattle.calls.specs.declared.command.Command.TheVariants.{Session as SessionFamily}
 use Rattle.calls.specs.declared.command.Session.TheVariants.{Use as UseCommand, Look}
-use Rattle.rules.specs.Told.{Told}
 use Rattle.rules.specs.State.{owner_of, State, Bounds, bare_state}
-use Rattle.rules.specs.Views.{view, LedgerView}
+use Rattle.rules.specs.Views.{view}
 use Rattle.rules.specs.Coverage.{Covered}
 use Rattle.rules.specs.Numbers.{number, use_in_range, use_of}
-use Rattle.rules.specs.Effects.{closed_in}
 use Rattle.rules.specs.Rules.{answer, next}
 use Rattle.rules.specs.declared.call.Call.{Call}
 use Rattle.rules.specs.declared.call.Call.TheVariants.{Command as CommandCall, Draw, Enter}
-use Rattle.law.specs.Account.{Past, tables_of, stands, permits, account_view, ledger_of}
+use Rattle.law.specs.Account.{Past, tables_of, stands, permits, account_view}
 use Rattle.law.specs.Histories.{state_of, past_of, struck_out, heard_by}
 
 -- by the account a permit may be drawn for this use

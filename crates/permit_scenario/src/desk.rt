@@ -106,7 +106,8 @@ impl Desk {
     }
 
     pub(crate) fn account(&self, owner: u16) -> Account
-        ensures { adds_up result.counts ≡ true }
+        ensures owner { result.owner ≡ owner }
+        ensures sum { adds_up result.counts ≡ true }
     {
         let counts = self.ledgers.counts(owner).unwrap_or(Counts {
             issued: 0,

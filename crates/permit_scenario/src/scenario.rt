@@ -1,6 +1,6 @@
 // One morning.
-ghost use Rattle.std.specs.Prelude.{◌≡◌, true};
-ghost use Rattle.permit_scenario.specs.Accounts.{all_add_up};
+ghost use Rattle.std.specs.Prelude.{◌≡◌, true, [], ◌∷◌};
+ghost use Rattle.permit_scenario.specs.Accounts.{all_add_up, owners_of};
 
 use crate::desk::{Desk, LINES};
 use crate::line::{Account, Act, Line};
@@ -14,7 +14,8 @@ pub struct Morning {
 
 // Two clerks, in the sessions 1 and 2, see to the pay lines of the owners 4 and 5.
 pub fn run() -> Morning
-    ensures { all_add_up result.accounts ≡ true }
+    ensures owners { owners_of result.accounts ≡ 4 ∷ 5 ∷ [] }
+    ensures sums { all_add_up result.accounts ≡ true }
 {
     let mut desk = Desk::open();
 

@@ -17,6 +17,6 @@ returns c =
     let accepted = ap (λ (a : Answer). a.number) drew.answer in
     let permit = c.in_ok-permit.permit in
     record {
-      answer = once_answer Entry o u f g sound accepted c.draw.ensures.left permit.owner permit.serial drew.serial.0 drew.serial.1 c.enter.result c.enter.ensures.answer;
-      left = left_at_once Entry o u f g sound accepted c.draw.ensures.left permit.owner permit.serial drew.serial.0 drew.serial.1 (ledgers_of c.enter.new.self) c.enter.ensures.left;
+      answer = once_answer Entry o u f g sound accepted c.draw.ensures.left permit.owner permit.serial drew.serial.0 drew.serial.1 _ assumption;
+      left = left_at_once Entry o u f g sound accepted c.draw.ensures.left permit.owner permit.serial drew.serial.0 drew.serial.1 _ assumption;
     }

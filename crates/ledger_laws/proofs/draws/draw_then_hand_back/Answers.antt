@@ -17,6 +17,6 @@ returns c =
     let accepted = ap (λ (a : Answer). a.number) drew.answer in
     let permit = c.in_ok-permit.permit in
     record {
-      answer = once_answer HandingBack o u f g sound accepted c.draw.ensures.left permit.owner permit.serial drew.serial.0 drew.serial.1 c.hand_back.result c.hand_back.ensures.answer;
-      left = left_at_once HandingBack o u f g sound accepted c.draw.ensures.left permit.owner permit.serial drew.serial.0 drew.serial.1 (ledgers_of c.hand_back.new.self) c.hand_back.ensures.left;
+      answer = once_answer HandingBack o u f g sound accepted c.draw.ensures.left permit.owner permit.serial drew.serial.0 drew.serial.1 _ assumption;
+      left = left_at_once HandingBack o u f g sound accepted c.draw.ensures.left permit.owner permit.serial drew.serial.0 drew.serial.1 _ assumption;
     }

@@ -13,7 +13,7 @@ left c = pair_written c.args.self.juniors c.args.senior c.args.junior false c.wi
 pub invariant_of-result : goal.invariant_of-result
 invariant_of-result c =
     let h = c.args.self in
-    let gone = pair_gone (pairs_in h.juniors) c.args.senior c.args.junior _ (left c) in
+    let gone = pair_gone (pairs_in h.juniors) c.args.senior c.args.junior _ (left (goal.at.invariant_of-result c).After-without) in
     record { acyclic = cut_acyclic (pairs_in h.juniors) _ _ gone h.acyclic; inside = cut_bounded (pairs_in h.juniors) _ _ gone h.inside }
 
 pub returns : goal.returns

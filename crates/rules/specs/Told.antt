@@ -1,6 +1,6 @@
 -- What an answer tells: its number, its layer, and the values that it carries.
 use Rattle.std.specs.Prelude.{ℕ}
-use Rattle.register.specs.Answers.{fault_number as registerNumber}
+use Rattle.register.specs.Answers.{fault_number as register_number}
 use Rattle.rules.specs.declared.answer.Answer.{Answer}
 use Rattle.rules.specs.declared.answer.Answer.TheVariants.{Accepted, Permit, Counts as CountsAnswer, Refused}
 use Rattle.rules.specs.declared.fault.KernelFault.{KernelFault}
@@ -26,7 +26,7 @@ fault_number PlacesTaken = 16
 fault_number SerialsUsedUp = 17
 fault_number NotOpen = 18
 fault_number NotCovered = 19
-fault_number (Register f) = registerNumber f
+fault_number (Register f) = register_number f
 
 -- the layer that refused: 1 for the register, 2 for the kernel
 abbrev pub fault_layer : KernelFault → ℕ

@@ -1,5 +1,5 @@
 -- What the operations on bits do to the members, over any width.
-use Rattle.std.proofs.Common.{◌≡◌, ℕ, suc, ◌-◌, ◌*◌, ◌/◌, ◌%◌, ◌^◌, ◌<◌, ◌≤◌, Bool, true, false, cond, not, ◌&&◌, ◌||◌, eqb, Decides, sym, refl, ap, ◌∙◌, ⊎_elim, arith}
+use Rattle.std.proofs.Common.{◌≡◌, ℕ, suc, ◌-◌, ◌*◌, ◌/◌, ◌%◌, ◌^◌, ◌<◌, ◌≤◌, Bool, true, false, cond, not, ◌&&◌, ◌||◌, eqb, Decides, sym, refl, ap, ◌∙◌, ⊎_elim, arith, pow_mono}
 use mathlib.Core.Path.{fun_ext}
 use lib.Arith.{bin_ind}
 use lib.Bits.{bit_and, bit_or}
@@ -7,7 +7,7 @@ use lib.Pow.{pow-lt}
 use Rattle.std.proofs.lemmas.Bool.{cases_lt, cases_eq, cases_Bool, eqb-true, eqb-false, eq-eqb, ne_eqb, and_parts, and_from, not-true, not_from_false, both_ways}
 use Rattle.std.proofs.lemmas.Bool.Decides.{nat_tests}
 use Rattle.bits.specs.Sets.{has, members, none, either, but, Meet, Within}
-use Rattle.bits.specs.declared.wide.WideSet.{WideSet}
+use Rattle.bits.specs.declared.set.BitSet.{BitSet}
 use Rattle.bits.specs.Tables.{put}
 use Rattle.bits.proofs.Bits.{has_or, has_and, has_zero, has_high, has_half, has_first, has_pow, has_not, one_bit, has_some}
 
@@ -68,7 +68,7 @@ without_high w a t small le =
     (cases_Bool (eqb n t)))
 
 -- every member lies below the width
-pub members_inside : {K : Type 0} (s : WideSet K) → s.bits < 2 ^ 64 → (n : ℕ) → members s n ≡ true → n < 64
+pub members_inside : {K : Type 0} (s : BitSet ℕ K) → s.bits < 2 ^ 64 → (n : ℕ) → members s n ≡ true → n < 64
 members_inside s small n here = ⊎_elim (λ below. below) (λ above. absurd (both_ways (members s n) (has_high 64 s.bits n small above) here)) (cases_lt n 64)
 
 -- numbers with the same bits are the same
@@ -88,6 +88,12 @@ same_number a b e =
   where
     same_parity : (x y : ℕ) → x < 2 → y < 2 → eqb x 1 ≡ eqb y 1 → x ≡ y
     same_parity x y p q e = grind (arith, nat_tests)
+
+-- of a number of w bits the complement at 64 bits keeps what the complement at w bits keeps
+pub and_not_wide : (w a b : ℕ) → w ≤ 64 → a < 2 ^ w → b < 2 ^ w → bit_and a (2 ^ 64 - 1 - b) ≡ bit_and a (2 ^ w - 1 - b)
+and_not_wide w a b le small-a small_b =
+    let wide = pow_mono le in
+    same_number _ _ (and_not_but 64 a b (omega arith) (omega arith) ∙ sym (and_not_but w a b small-a small_b))
 
 pub decides_none : (a : ℕ) → Decides (eqb a 0) (has a ≡ none)
 decides_none a = ((λ z. ap has (eqb-true a 0 z) ∙ zero_none), (λ e. eq-eqb a 0 (same_number a 0 (e ∙ sym zero_none))))

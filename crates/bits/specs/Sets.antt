@@ -1,17 +1,17 @@
 -- A number as a set of small numbers: n is a member where its bit worth 2 ^ n is 1.
 use Rattle.std.specs.Prelude.{◌≡◌, ℕ, ◌+◌, ◌*◌, ◌/◌, ◌%◌, ◌^◌, Bool, true, false, not, ◌&&◌, ◌||◌, List, [], ◌∷◌, ◌==◌, slice_index}
-use Rattle.bits.specs.declared.narrow.TypeSet.{TypeSet}
-use Rattle.bits.specs.declared.wide.WideSet.{WideSet}
+use Rattle.bits.specs.declared.set.BitSet.{BitSet}
 
 unfoldable pub has : ℕ → ℕ → Bool
 has bits n = bits / 2 ^ n % 2 == 1
 
--- which numbers are in a set, as a function
-abbrev pub members : {K : Type 0} → WideSet K → ℕ → Bool
-members s = has s.bits
+-- which numbers are in a set, as a function; value gives the number of its word
+abbrev pub members_by : {W K : Type 0} → (W → ℕ) → BitSet W K → ℕ → Bool
+members_by value s = has (value s.bits)
 
-abbrev pub types : TypeSet → ℕ → Bool
-types s = has s.bits
+-- the same where the word is a number already, of whatever width
+abbrev pub members : {K : Type 0} → BitSet ℕ K → ℕ → Bool
+members s = has s.bits
 
 -- words of 16 bits as one number, the lowest first
 abbrev pub joined : List ℕ → ℕ

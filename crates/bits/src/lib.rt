@@ -1,5 +1,5 @@
 // Sets of small numbers, a bit to each member.
 #![tactic(auto)]
 
-pub mod narrow;
-pub mod wide;
+pub mod set;
+pub mod word;

@@ -1,7 +1,7 @@
 -- The ledgers of all owners, as a table over the owner's number.
 use Rattle.std.specs.Prelude.{ℕ, ◌+◌, List, [], ◌∷◌, map, replicate, Some, None, Option, nat_lt, slice_index_or}
-use Rattle.bits.specs.declared.wide.WideSet.{WideSet}
-use Rattle.bits.specs.declared.wide.Session.{Session}
+use Rattle.bits.specs.declared.set.BitSet.{BitSet}
+use Rattle.bits.specs.declared.set.Session.{Session}
 use Rattle.vocabulary.specs.Questions.{Question, asks, first_no, if_accepted}
 use Rattle.bits.specs.Tables.{put}
 use Rattle.ledger.specs.Answers.{Answer, answered}
@@ -70,7 +70,7 @@ abbrev pub owner_left : ℕ → Table → Table
 owner_left o f = if_accepted (first_no (known o ∷ [])) (put o (closed Lapse (permits_of All) (f o)) f) f
 
 -- all open permits of these sessions lapse, in every ledger
-abbrev pub sessions_left : WideSet Session → Table → Table
+abbrev pub sessions_left : BitSet ℕ Session → Table → Table
 sessions_left ended f o = closed Lapse (permits_of (Sessions ended)) (f o)
 
 -- the ledger question: the four counts and the number of open permits

@@ -10,7 +10,7 @@ use crate::counts::Counts;
 use crate::fault::LedgerFault;
 use crate::ledger::Ledger;
 use crate::place::{Closing, Use};
-use bits::wide::SessionSet;
+use bits::set::SessionSet;
 
 // One ledger for each owner number.
 #[derive(Drop)]

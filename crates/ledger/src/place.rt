@@ -4,7 +4,7 @@ ghost use Rattle.ledger.specs.Places.{place_answer, place_after, meets, cleared,
 ghost use Rattle.ledger.specs.Answers.{done_answer};
 
 use crate::fault::LedgerFault;
-use bits::wide::SessionSet;
+use bits::set::SessionSet;
 
 // What a permit is drawn for.
 #[derive(Clone, Copy, PartialEq, Eq, Debug)]

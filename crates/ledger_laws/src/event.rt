@@ -1,5 +1,5 @@
 // The events that change the ledgers.
-use bits::wide::SessionSet;
+use bits::set::SessionSet;
 use ledger::place::Use;
 
 // What is done for one owner.

@@ -3,7 +3,7 @@
 
 #[cfg(test)]
 mod tests {
-    use bits::wide::SessionSet;
+    use bits::set::SessionSet;
     use ledger::counts::Counts;
     use ledger::fault::{LedgerFault, answer_number};
     use ledger::ledgers::Ledgers;

@@ -4,7 +4,7 @@ ghost use Rattle.std.specs.Prelude.{◌≡◌, true, false, IfOk};
 ghost use Rattle.permit_scenario.specs.Accounts.{adds_up};
 
 use crate::line::{Account, Act, Line};
-use bits::wide::SessionSet;
+use bits::set::SessionSet;
 use ledger::counts::Counts;
 use ledger::fault::{LedgerFault, answer_number};
 use ledger::ledgers::Ledgers;

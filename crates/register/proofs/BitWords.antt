@@ -5,9 +5,10 @@ use lib.ListN.{length-replicate}
 use Rattle.std.proofs.lemmas.List.{get_or-set_same, get_or-set_other, get_or-replicate, get_or_past}
 use Rattle.std.proofs.lemmas.Bool.{cases_Bool, cases_lt, both_ways, and_parts, and_from, and_left, and_right, eqb-true, eq-eqb, ltb-true, cond-true, cond-false}
 use Rattle.bits.proofs.Bits.{has_zero}
-use Rattle.bits.specs.Sets.{types, none}
+use Rattle.bits.specs.Sets.{members, none}
 use Rattle.bits.specs.Tables.{put}
-use Rattle.bits.specs.declared.narrow.TypeSet.{TypeSet}
+use Rattle.bits.specs.declared.set.BitSet.{BitSet}
+use Rattle.bits.specs.declared.set.DataType.{DataType}
 use Rattle.register.specs.Meaning.{Consents, Register, in_range, same, put_one}
 use Rattle.register.specs.BitMeaning.{entries_in, no_types}
 
@@ -15,7 +16,7 @@ nothing : (x : Bool) → false ≡ cond x false false
 nothing true = refl
 nothing false = refl
 
-module _ (words : List TypeSet) (o q : ℕ) (v : TypeSet) (long : length words ≡ 2048) (o-in : o < 128) (q-in : q < 16) where
+module _ (words : List (BitSet ℕ DataType)) (o q : ℕ) (v : BitSet ℕ DataType) (long : length words ≡ 2048) (o-in : o < 128) (q-in : q < 16) where
   at_word : (a b : ℕ) → b < 16 → get_or (set words (16 * o + q) v) (16 * a + b) no_types ≡ cond (eqb a o && eqb b q) v (get_or words (16 * a + b) no_types)
   at_word a b b-in =
       ⊎_elim
@@ -32,22 +33,22 @@ module _ (words : List TypeSet) (o q : ℕ) (v : TypeSet) (long : length words �
       (cases_Bool (eqb a o && eqb b q))
 
   -- the word of the owner o and the purpose q is v, and every other word is as it was
-  pub word_set : (a b c : ℕ) → entries_in (set words (16 * o + q) v) a b c ≡ cond (eqb a o && eqb b q) (in_range a b c && types v c) (entries_in words a b c)
+  pub word_set : (a b c : ℕ) → entries_in (set words (16 * o + q) v) a b c ≡ cond (eqb a o && eqb b q) (in_range a b c && members v c) (entries_in words a b c)
   word_set a b c =
       ⊎_elim
       (λ (inside : in_range a b c ≡ true).
       let low = (and_parts (ltb b 16) (ltb c 16) (and_parts (ltb a 128) (ltb b 16 && ltb c 16) inside).1).0 in
-      rw inside (ap (λ w. types w c) (at_word a b (ltb-true b 16 low)) ∙ inner (eqb a o && eqb b q) v (get_or words (16 * a + b) no_types)))
+      rw inside (ap (λ w. members w c) (at_word a b (ltb-true b 16 low)) ∙ inner (eqb a o && eqb b q) v (get_or words (16 * a + b) no_types)))
       (λ (out : in_range a b c ≡ false). rw out (nothing (eqb a o && eqb b q)))
       (cases_Bool (in_range a b c))
     where
-      inner : (x : Bool) (v w : TypeSet) → types (cond x v w) c ≡ cond x (types v c) (types w c)
+      inner : (x : Bool) (v w : BitSet ℕ DataType) → members (cond x v w) c ≡ cond x (members v c) (members w c)
       inner true v w = refl
       inner false v w = refl
 
   -- a word whose type t is put to x puts one entry to x
-  module _ (t : ℕ) (x : Bool) (inside : in_range o q t ≡ true) (is : types v ≡ put t x (types (get_or words (16 * o + q) no_types))) where
-    at_entry : (a b c : ℕ) → cond (eqb a o && eqb b q) (in_range a b c && types v c) (entries_in words a b c) ≡ cond (same o q t a b c) x (entries_in words a b c)
+  module _ (t : ℕ) (x : Bool) (inside : in_range o q t ≡ true) (is : members v ≡ put t x (members (get_or words (16 * o + q) no_types))) where
+    at_entry : (a b c : ℕ) → cond (eqb a o && eqb b q) (in_range a b c && members v c) (entries_in words a b c) ≡ cond (same o q t a b c) x (entries_in words a b c)
     at_entry a b c =
         ⊎_elim
         (λ (yes' : (eqb a o && eqb b q) ≡ true).
@@ -55,7 +56,7 @@ module _ (words : List TypeSet) (o q : ℕ) (v : TypeSet) (long : length words �
         let owner : a ≡ o = eqb-true a o parts.0 in
         let purpose : b ≡ q = eqb-true b q parts.1 in
         let word : get_or words (16 * a + b) no_types ≡ get_or words (16 * o + q) no_types = λ i. get_or words (16 * owner i + purpose i) no_types in
-        let bit : types v c ≡ cond (eqb c t) x (types (get_or words (16 * o + q) no_types) c) = ap (λ f. f c) is in
+        let bit : members v c ≡ cond (eqb c t) x (members (get_or words (16 * o + q) no_types) c) = ap (λ f. f c) is in
         cond-true _ _ _ yes'
         ∙ ⊎_elim
         (λ (here : eqb c t ≡ true).
@@ -63,7 +64,7 @@ module _ (words : List TypeSet) (o q : ℕ) (v : TypeSet) (long : length words �
         (λ i. within_range i && (bit ∙ cond-true _ _ _ here) i)
         ∙ sym (cond-true _ _ _ (and_from _ _ parts.0 (and_from _ _ parts.1 here))))
         (λ (other : eqb c t ≡ false).
-        ap (λ y. in_range a b c && y) (bit ∙ cond-false _ _ _ other ∙ sym (ap (λ w. types w c) word))
+        ap (λ y. in_range a b c && y) (bit ∙ cond-false _ _ _ other ∙ sym (ap (λ w. members w c) word))
         ∙ sym (cond-false _ x _ (and_right (eqb a o) _ (and_right (eqb b q) _ other))))
         (cases_Bool (eqb c t)))
         (λ (no' : (eqb a o && eqb b q) ≡ false). cond-false _ _ _ no' ∙ sym (cond-false _ _ _ (outer (eqb a o) (eqb b q) (eqb c t) no')))
@@ -93,19 +94,19 @@ pub same_register : {l : ℕ} {f g : Consents} → f ≡ g → ◌≡◌ {A = Re
 same_register {l} e = λ i. record { limit = l; entries = e i }
 
 -- words without types have no entries
-pub empty_words : (n : ℕ) (v : TypeSet) → types v ≡ none → (o q t : ℕ) → entries_in (replicate n v) o q t ≡ false
+pub empty_words : (n : ℕ) (v : BitSet ℕ DataType) → members v ≡ none → (o q t : ℕ) → entries_in (replicate n v) o q t ≡ false
 empty_words n v is o q t =
     and_right (in_range o q t) _
     (⊎_elim
-    (λ (below : 16 * o + q < n). ap (λ w. types w t) (get_or-replicate n (16 * o + q) v no_types below) ∙ ap (λ f. f t) is)
-    (λ (past : n ≤ 16 * o + q). ap (λ w. types w t) (get_or_past (replicate n v) (16 * o + q) no_types (simp length-replicate past)) ∙ has_zero t)
+    (λ (below : 16 * o + q < n). ap (λ w. members w t) (get_or-replicate n (16 * o + q) v no_types below) ∙ ap (λ f. f t) is)
+    (λ (past : n ≤ 16 * o + q). ap (λ w. members w t) (get_or_past (replicate n v) (16 * o + q) no_types (simp length-replicate past)) ∙ has_zero t)
     (cases_lt (16 * o + q) n))
 
 -- a word without types has no entries, and every other word is as it was
-pub word_emptied : (words : List TypeSet) (o q : ℕ) (v : TypeSet) → length words ≡ 2048 → o < 128 → q < 16 → types v ≡ none → (a b c : ℕ) → entries_in (set words (16 * o + q) v) a b c ≡ cond (eqb a o && eqb b q) false (entries_in words a b c)
+pub word_emptied : (words : List (BitSet ℕ DataType)) (o q : ℕ) (v : BitSet ℕ DataType) → length words ≡ 2048 → o < 128 → q < 16 → members v ≡ none → (a b c : ℕ) → entries_in (set words (16 * o + q) v) a b c ≡ cond (eqb a o && eqb b q) false (entries_in words a b c)
 word_emptied words o q v long o-in q-in is a b c =
     word_set words o q v long o-in q-in a b c
     ∙ ap (λ x. cond (eqb a o && eqb b q) x (entries_in words a b c)) (and_right (in_range a b c) _ (ap (λ f. f c) is))
 
-pub entries_inside : (words : List TypeSet) (o q t : ℕ) → entries_in words o q t ≡ true → in_range o q t ≡ true
+pub entries_inside : (words : List (BitSet ℕ DataType)) (o q t : ℕ) → entries_in words o q t ≡ true → in_range o q t ≡ true
 entries_inside words o q t e = (and_parts (in_range o q t) _ e).0

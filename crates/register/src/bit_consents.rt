@@ -7,7 +7,7 @@ use crate::bit_register::BitRegister;
 use crate::fault::RegisterFault;
 use crate::ranges::in_range;
 use crate::register::ConsentRegister;
-use bits::narrow::TypeSet;
+use bits::set::TypeSet;
 
 // Where the word of an owner and a purpose lies.
 fn word_of(owner: u16, purpose: u16) -> usize

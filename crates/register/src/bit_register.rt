@@ -1,4 +1,4 @@
-use bits::narrow::TypeSet;
+use bits::set::TypeSet;
 
 // One bit for each consent: for each owner and purpose a set of data types. It is never full.
 #[derive(Drop)]

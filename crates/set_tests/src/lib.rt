@@ -3,8 +3,8 @@
 
 #[cfg(test)]
 mod tests {
-    use bits::narrow::TypeSet;
-    use bits::wide::{RoleSet, SessionSet};
+    use bits::set::TypeSet;
+    use bits::set::{RoleSet, SessionSet};
     use records::kinds::{Consent, PlainGrant, PrivateGrant};
     use records::record::Thing;
     use records::set::{RecordSet, SetFault};

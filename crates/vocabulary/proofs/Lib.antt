@@ -5,3 +5,4 @@ pub mod Puts
 pub mod Questions
 pub mod Runs
 pub mod Some
+pub mod Sweeps

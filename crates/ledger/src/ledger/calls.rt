@@ -10,7 +10,7 @@ use super::{Ledger, places};
 use crate::counts::Counts;
 use crate::fault::LedgerFault;
 use crate::place::{Closing, Place, Use, Which};
-use bits::wide::SessionSet;
+use bits::set::SessionSet;
 
 impl Ledger {
     pub(crate) fn new() -> Ledger

@@ -1,6 +1,6 @@
 use Rattle.std.proofs.Common.{◌≡◌, ◌+◌, ◌*◌, true, false, ◌&&◌, length, get_or, set, sym, ap, ◌∙◌, arith, rules}
 use Rattle.std.proofs.lemmas.Bool.{cond-true, cond-false, lt-ltb, not_from_true}
-use Rattle.bits.specs.Sets.{types}
+use Rattle.bits.specs.Sets.{members}
 use Rattle.bits.specs.Tables.{put}
 use Rattle.register.specs.Meaning.{in_range}
 use Rattle.register.specs.BitMeaning.{entries_in, no_types}
@@ -20,9 +20,9 @@ returns c =
     let at = c.word_of-at.ensures.value in
     let long : length words ≡ 2048 = search rules in
     let old : get_or words c.word_of-at.result no_types ≡ get_or words (16 * o + q) no_types = ap (λ n. get_or words n no_types) at in
-    let lacks : entries_in words o q t ≡ false = (λ i. inside i && (ap (λ w. types w t) (sym old) ∙ sym c.if-contains.ensures) i) in
-    let is : types v ≡ put t true (types (get_or words (16 * o + q) no_types)) =
-    c.with.ensures.members ∙ cond-true _ _ _ (lt-ltb t 16 in_parts.kind) ∙ ap (λ w. put t true (types w)) old
+    let lacks : entries_in words o q t ≡ false = (λ i. inside i && (ap (λ w. members w t) (sym old) ∙ sym c.if-contains.ensures) i) in
+    let is : members v ≡ put t true (members (get_or words (16 * o + q) no_types)) =
+    c.with.ensures.members ∙ cond-true _ _ _ (lt-ltb t 16 in_parts.kind) ∙ ap (λ w. put t true (members w)) old
     in
     let room = never_full (entries_in words) o q t in_parts.purpose in_parts.kind lacks in
     record {

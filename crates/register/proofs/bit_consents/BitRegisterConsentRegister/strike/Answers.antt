@@ -1,6 +1,6 @@
 use Rattle.std.proofs.Common.{◌≡◌, ◌+◌, ◌*◌, true, false, length, get_or, set, sym, ap, ◌∙◌, arith, rules}
 use Rattle.std.proofs.lemmas.Bool.{and_from, cond-true, lt-ltb}
-use Rattle.bits.specs.Sets.{types}
+use Rattle.bits.specs.Sets.{members}
 use Rattle.bits.specs.Tables.{put}
 use Rattle.register.specs.Meaning.{in_range, put_one}
 use Rattle.register.specs.BitMeaning.{entries_in, no_types}
@@ -23,8 +23,8 @@ loop-owner-preserved c =
     let long : length words ≡ 2048 = search rules in
     let at = c.word_of-at.ensures.value in
     let inside : in_range k q t ≡ true = and_from _ _ (lt-ltb k 128 (omega arith)) (and_from _ _ (lt-ltb q 16 (omega arith)) (lt-ltb t 16 (omega arith))) in
-    let bits : types v ≡ put t false (types (get_or words (16 * k + q) no_types)) =
-    c.without.ensures.members ∙ ap (λ n. put t false (types (get_or words n no_types))) at
+    let bits : members v ≡ put t false (members (get_or words (16 * k + q) no_types)) =
+    c.without.ensures.members ∙ ap (λ n. put t false (members (get_or words n no_types))) at
     in
     let one : entries_in (set words c.word_of-at.result v) ≡ put_one k q t false (entries_in words) =
     ap (λ n. entries_in (set words n v)) at ∙ entry_put words k q v long (omega arith) (omega arith) t false inside bits

@@ -1,6 +1,6 @@
 use Rattle.std.proofs.Common.{◌≡◌, ◌+◌, ◌*◌, true, false, ◌&&◌, length, get_or, set, sym, ap, ◌∙◌, rules}
 use Rattle.std.proofs.lemmas.Bool.{cond-true, cond-false, not_from_true}
-use Rattle.bits.specs.Sets.{types}
+use Rattle.bits.specs.Sets.{members}
 use Rattle.bits.specs.Tables.{put}
 use Rattle.register.specs.Meaning.{in_range}
 use Rattle.register.specs.BitMeaning.{entries_in, no_types}
@@ -19,8 +19,8 @@ returns c =
     let at = c.word_of-at.ensures.value in
     let long : length words ≡ 2048 = search rules in
     let old : get_or words c.word_of-at.result no_types ≡ get_or words (16 * o + q) no_types = ap (λ n. get_or words n no_types) at in
-    let has-it : entries_in words o q t ≡ true = (λ i. inside i && (ap (λ w. types w t) (sym old) ∙ sym c.if-not-contains.ensures) i) in
-    let is : types v ≡ put t false (types (get_or words (16 * o + q) no_types)) = c.without.ensures.members ∙ ap (λ w. put t false (types w)) old in
+    let has-it : entries_in words o q t ≡ true = (λ i. inside i && (ap (λ w. members w t) (sym old) ∙ sym c.if-not-contains.ensures) i) in
+    let is : members v ≡ put t false (members (get_or words (16 * o + q) no_types)) = c.without.ensures.members ∙ ap (λ w. put t false (members w)) old in
     record {
       answer = sym (cond-false _ _ _ (not_from_true _ inside) ∙ cond-true _ _ _ has-it);
       left =

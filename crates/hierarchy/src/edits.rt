@@ -1,25 +1,12 @@
 // Edits of a hierarchy: each takes it by value and gives the edited one back whole.
 ghost use Rattle.std.specs.Prelude.{◌≡◌, ℕ, ◌<◌, true, false, ◌&&◌, ◌||◌, IfOk, Decides, ◌==◌};
 ghost use Rattle.hierarchy.specs.Inheritance.{pairs_in};
-ghost use Rattle.hierarchy.specs.Edits.{fault_number, edit_number, in_range, add_answer, remove_answer, put_pair, without_role};
+ghost use Rattle.hierarchy.specs.Edits.{edit_number, in_range, add_answer, remove_answer, put_pair, without_role};
 ghost use Rattle.hierarchy.specs.Laws.{Joined, Cut};
 
 use crate::fault::HierarchyFault;
 use crate::hierarchy::Hierarchy;
-use bits::wide::RoleSet;
-
-impl HierarchyFault {
-    pub fn number(self) -> u8
-        ensures { result ≡ fault_number self }
-    {
-        match self {
-            HierarchyFault::OutOfRange => 1,
-            HierarchyFault::AlreadyThere => 9,
-            HierarchyFault::NotThere => 10,
-            HierarchyFault::Circle => 11,
-        }
-    }
-}
+use bits::set::RoleSet;
 
 // Whether both numbers are of roles.
 fn in_range(senior: u16, junior: u16) -> bool
@@ -86,8 +73,8 @@ impl Hierarchy {
             return self;
         }
         let mut juniors = self.juniors;
-        for r in 0..64usize {
-            juniors[r] = juniors[r].without(role);
+        for row in juniors.iter_mut() {
+            *row = row.without(role);
         }
         juniors[role as usize] = RoleSet::empty();
         Hierarchy { juniors }

@@ -2,7 +2,7 @@
 ghost use Rattle.hierarchy.specs.Inheritance.{pairs_in, Bounded};
 ghost use Rattle.hierarchy.specs.Chains.{Acyclic};
 
-use bits::wide::RoleSet;
+use bits::set::RoleSet;
 
 // Each role's immediate juniors. No value of this type has a role above itself by a chain of one or more steps, and
 // none names a role out of range.

@@ -7,26 +7,25 @@ ghost use Rattle.hierarchy.specs.Reach.{juniors_of, reach_of, above_or_equal};
 ghost use Rattle.hierarchy.specs.Laws.{Exactly, Reached};
 
 use crate::hierarchy::Hierarchy;
-use bits::wide::RoleSet;
+use bits::set::RoleSet;
 
 impl Hierarchy {
     // Whether the senior is put directly above the junior.
     pub fn is_immediate(&self, senior: u16, junior: u16) -> bool
         ensures { result ≡ pairs_in self.now.juniors senior junior }
     {
-        match self.juniors.get(senior as usize) {
-            Some(juniors) => juniors.contains(junior),
-            None => false,
-        }
+        self.juniors
+            .get(senior as usize)
+            .is_some_and(|juniors| juniors.contains(junior))
     }
 
     fn juniors_of(&self, set: RoleSet) -> RoleSet
         ensures { members result ≡ juniors_of (pairs_in self.now.juniors) (members set) }
     {
         let mut found = RoleSet::empty();
-        for role in 0..64u16 {
-            if set.contains(role) {
-                found = found.union(self.juniors[role as usize]);
+        for (role, juniors) in self.juniors.iter().enumerate() {
+            if set.contains(role as u16) {
+                found = found.union(*juniors);
             }
         }
         found

@@ -2,13 +2,12 @@
 // lead from the top to the bottom. Given a number of rounds it also prints how long a reach takes.
 #![tactic(auto)]
 
-use bits::wide::RoleSet;
+use bits::set::RoleSet;
 use hierarchy::hierarchy::Hierarchy;
 use std::env;
 use std::time::Instant;
 
-mod chain;
-mod diamonds;
+mod hierarchies;
 
 // How many roles are reached in all, from the top and one role more, in so many rounds.
 fn reached(hierarchy: &Hierarchy, rounds: u32) -> u64 {
@@ -38,6 +37,6 @@ fn main(rt: HostRuntime) -> anyhow::Result<()> {
     if let Some(word) = env::args(&rt)?.nth(1) {
         rounds = word.parse::<u32>()?;
     }
-    measure(rt, "chain of 64", &chain::hierarchy(), rounds)?;
-    measure(rt, "30 stacked diamonds", &diamonds::hierarchy(), rounds)
+    measure(rt, "chain of 64", &hierarchies::chain(), rounds)?;
+    measure(rt, "30 stacked diamonds", &hierarchies::diamonds(), rounds)
 }

@@ -1,22 +1,24 @@
 -- The role is out of every row, and its own row is empty.
 use Rattle.std.proofs.Common.{◌≡◌, false, set, ap, ◌∙◌, arith, length-set, rules}
-use Rattle.bits.specs.Sets.{none}
+use Rattle.bits.specs.Sets.{members, none}
 use Rattle.bits.specs.Tables.{put}
-use Rattle.hierarchy.specs.Inheritance.{pairs_in}
+use Rattle.vocabulary.proofs.Sweeps.{swept, swept_none, swept_all, swept_set}
+use Rattle.hierarchy.specs.Inheritance.{pairs_in, no_roles}
 use Rattle.hierarchy.specs.Edits.{without_role}
 use Rattle.hierarchy.proofs.Rows.{row_written}
 use Rattle.hierarchy.proofs.Cutting.{cut_acyclic, cut_bounded, cut_above, role_is_gone}
-use Rattle.hierarchy.proofs.Sweeping.{swept, swept_none, swept_more, swept_all, without_absent}
+use Rattle.hierarchy.proofs.Sweeping.{rows_past, out_of_all, without_absent}
 use Rattle.hierarchy.proofs.hierarchy.Hierarchy.without_role.Goals as goal
 use Rattle.hierarchy.proofs.hierarchy.Hierarchy.without_role.Goals.{After-empty}
 
-left : (c : After-empty) → pairs_in (set c.loop-r.juniors c.args.role c.empty.result) ≡ without_role c.args.role (pairs_in c.args.self.juniors)
+left : (c : After-empty) → pairs_in (set c.loop-row.row-items c.args.role c.empty.result) ≡ without_role c.args.role (pairs_in c.args.self.juniors)
 left c =
     let old = pairs_in c.args.self.juniors in
-    let end : c.loop-r.r ≡ 64 = omega arith in
-    row_written c.loop-r.juniors c.args.role c.empty.result none (omega arith) c.empty.ensures.members
-    ∙ ap (put c.args.role none) (c.loop-r.invariant.1 ∙ ap (λ n. swept n c.args.role old) end)
-    ∙ swept_all c.args.role old c.args.self.inside
+    let role = c.args.role in
+    let end : c.loop-row.row-index ≡ 64 = omega arith in
+    row_written c.loop-row.row-items role c.empty.result none (omega arith) c.empty.ensures.members
+    ∙ ap (put role none) (c.loop-row.invariant.1 ∙ ap (swept (λ _. put role false) old) end ∙ swept_all (λ _. put role false) old 64 (rows_past role old c.args.self.inside))
+    ∙ out_of_all role old
 
 pub invariant_of-result : goal.invariant_of-result
 invariant_of-result c =
@@ -24,18 +26,15 @@ invariant_of-result c =
     let gone = role_is_gone (pairs_in h.juniors) c.args.role _ (left c) in
     record { acyclic = cut_acyclic (pairs_in h.juniors) _ _ gone h.acyclic; inside = cut_bounded (pairs_in h.juniors) _ _ gone h.inside }
 
-pub loop-r-init : goal.loop-r-init
-loop-r-init c = (search rules, swept_none c.args.role (pairs_in c.args.self.juniors))
+pub loop-row-init : goal.loop-row-init
+loop-row-init c = (search rules, swept_none (λ _. put c.args.role false) (pairs_in c.args.self.juniors))
 
-pub loop-r-preserved : goal.loop-r-preserved
-loop-r-preserved c =
-    let old = pairs_in c.args.self.juniors in
-    let n = c.loop-r.r in
-    let role = c.args.role in (
-      length-set c.loop-r.juniors n c.without.result ∙ c.loop-r.invariant.0,
-      row_written c.loop-r.juniors n c.without.result (put role false (pairs_in c.loop-r.juniors n)) (omega arith) c.without.ensures.members
-          ∙ ap (λ p. put n (put role false (p n)) p) c.loop-r.invariant.1
-          ∙ swept_more n role old,
+pub loop-row-preserved : goal.loop-row-preserved
+loop-row-preserved c =
+    let rows = c.loop-row.row-items in
+    let n = c.loop-row.row-index in (
+      length-set rows n c.without.result ∙ c.loop-row.invariant.0,
+      swept_set (λ _. put c.args.role false) (pairs_in c.args.self.juniors) members rows c.without.result no_roles n (omega arith) c.loop-row.invariant.1 c.without.ensures.members,
     )
 
 pub returns-then-role-ge64 : goal.returns-then-role-ge64

@@ -3,8 +3,8 @@ use Rattle.std.specs.Prelude.{ℕ, Bool, not, ◌&&◌, [], ◌∷◌, Ok, Err, 
 use Rattle.vocabulary.specs.Questions.{asks, first_no}
 use Rattle.vocabulary.specs.Tables.{only}
 use Rattle.bits.specs.Sets.{members, none}
-use Rattle.bits.specs.declared.wide.Session.{Session}
-use Rattle.bits.specs.declared.wide.WideSet.{WideSet}
+use Rattle.bits.specs.declared.set.Session.{Session}
+use Rattle.bits.specs.declared.set.BitSet.{BitSet}
 use Rattle.hierarchy.specs.Reach.{above_or_equal}
 use Rattle.directory.specs.State.{DirectoryState, is_open, user_of, active_in}
 use Rattle.directory.specs.Sessions.{authorised}
@@ -28,7 +28,7 @@ answer_number (Ok x) = 0
 answer_number (Err f) = fault_number f
 
 -- the sessions that an answer says have ended: none where the call was refused
-abbrev pub answer_ends : Result (WideSet Session) DirectoryFault → ℕ → Bool
+abbrev pub answer_ends : Result (BitSet ℕ Session) DirectoryFault → ℕ → Bool
 answer_ends (Ok sessions) = members sessions
 answer_ends (Err f) = none
 
@@ -40,6 +40,16 @@ is_role r = nat_lt r 64
 
 abbrev pub is_session : ℕ → Bool
 is_session s = nat_lt s 64
+
+-- the first questions of a call that names a user and a role, a session and a role, two roles
+abbrev pub user_and_role_answer : DirectoryState → ℕ → ℕ → ℕ
+user_and_role_answer d u r = first_no (asks 1 (is_user u && is_role r) ∷ asks 2 (d.user u) ∷ asks 3 (d.role r) ∷ [])
+
+abbrev pub session_and_role_answer : DirectoryState → ℕ → ℕ → ℕ
+session_and_role_answer d s r = first_no (asks 1 (is_session s && is_role r) ∷ asks 3 (d.role r) ∷ asks 6 (is_open (d.session s)) ∷ [])
+
+abbrev pub two_roles_answer : DirectoryState → ℕ → ℕ → ℕ
+two_roles_answer d a b = first_no (asks 1 (is_role a && is_role b) ∷ asks 3 (d.role a && d.role b) ∷ [])
 
 abbrev pub add_user_answer : DirectoryState → ℕ → ℕ
 add_user_answer d u = first_no (asks 1 (is_user u) ∷ asks 9 (not (d.user u)) ∷ [])

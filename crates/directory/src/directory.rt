@@ -1,12 +1,13 @@
 use crate::session::Session;
-use bits::wide::RoleSet;
+use bits::set::RoleSet;
 use hierarchy::hierarchy::Hierarchy;
 
 #[derive(Drop)]
 pub struct Directory {
-    pub(crate) users: [bool; 256],
+    // the roles that each user is assigned to; none where there is no such user
+    pub(crate) users: [Option<RoleSet>; 256],
     pub(crate) roles: RoleSet,
-    pub(crate) assigned: [RoleSet; 256],
     pub(crate) hierarchy: Hierarchy,
-    pub(crate) sessions: [Session; 64],
+    // none where the session is closed
+    pub(crate) sessions: [Option<Session>; 64],
 }

@@ -8,7 +8,7 @@ ghost use Rattle.directory.specs.View.{state_of};
 
 use crate::directory::Directory;
 use crate::fault::DirectoryFault;
-use bits::wide::SessionSet;
+use bits::set::SessionSet;
 
 impl Directory {
     pub fn add_role(&mut self, role: u16) -> Result<(), DirectoryFault>
@@ -49,8 +49,8 @@ impl Directory {
     fn unassign_all(&mut self, role: u16)
         ensures { state_of self.new ≡ with_assigned (λ u. put role false ((state_of self.old).assigned u)) (state_of self.old) }
     {
-        for user in 0..256u16 {
-            self.put_assigned(user, self.assigned_roles(user).without(role));
+        for roles in self.users.iter_mut() {
+            *roles = roles.map(|assigned| assigned.without(role));
         }
     }
 }

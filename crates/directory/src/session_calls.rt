@@ -1,13 +1,13 @@
 // The calls on sessions.
-ghost use Rattle.std.specs.Prelude.{◌≡◌};
-ghost use Rattle.directory.specs.Answers.{answer_number, answer_ends, open_answer, end_answer, activate_answer, drop_answer};
+ghost use Rattle.std.specs.Prelude.{◌≡◌, IfOk, Some};
+ghost use Rattle.directory.specs.Answers.{answer_number, answer_ends, session_and_role_answer, open_answer, end_answer, activate_answer, drop_answer};
 ghost use Rattle.directory.specs.Effects.{after_open, end_ends, after_end, after_activate, after_drop};
-ghost use Rattle.directory.specs.View.{state_of};
+ghost use Rattle.directory.specs.View.{session_state, state_of};
 
 use crate::directory::Directory;
 use crate::fault::DirectoryFault;
 use crate::session::Session;
-use bits::wide::{RoleSet, SessionSet};
+use bits::set::{RoleSet, SessionSet};
 
 impl Directory {
     // Opens a session for the user, with no active roles.
@@ -18,19 +18,15 @@ impl Directory {
         if session >= 64 || user >= 256 {
             return Err(DirectoryFault::OutOfRange);
         }
-        if !self.has_user(user) {
-            return Err(DirectoryFault::NoUser);
-        }
-        if self.session(session).is_open() {
+        self.user(user).ok_or(DirectoryFault::NoUser)?;
+        if self.is_open(session) {
             return Err(DirectoryFault::AlreadyThere);
         }
-        self.put_session(
-            session,
-            Session::Open {
-                user: user as u8,
-                active: RoleSet::empty(),
-            },
-        );
+        let opened = Session {
+            user: user as u8,
+            active: RoleSet::empty(),
+        };
+        self.put_session(session, Some(opened));
         Ok(())
     }
 
@@ -43,11 +39,25 @@ impl Directory {
         if session >= 64 {
             return Err(DirectoryFault::OutOfRange);
         }
-        if !self.session(session).is_open() {
+        if !self.is_open(session) {
             return Err(DirectoryFault::NoSession);
         }
-        self.put_session(session, Session::Closed);
+        self.put_session(session, None);
         Ok(SessionSet::empty().with(session))
+    }
+
+    // The open session, for a call that also names a role.
+    fn session_for(&self, session: u16, role: u16) -> Result<Session, DirectoryFault>
+        ensures answer { answer_number result ≡ session_and_role_answer (state_of self.now) session role }
+        ensures found { IfOk result (λ x. session_state (Some x) ≡ (state_of self.now).session session) }
+    {
+        if session >= 64 || role >= 64 {
+            return Err(DirectoryFault::OutOfRange);
+        }
+        if !self.has_role(role) {
+            return Err(DirectoryFault::NoRole);
+        }
+        self.session(session).ok_or(DirectoryFault::NoSession)
     }
 
     // Switches on the named role and no other.
@@ -55,58 +65,28 @@ impl Directory {
         ensures answer { answer_number result ≡ activate_answer (state_of self.old) session role }
         ensures left { state_of self.new ≡ after_activate (state_of self.old) session role }
     {
-        if session >= 64 || role >= 64 {
-            return Err(DirectoryFault::OutOfRange);
+        let Session { user, active } = self.session_for(session, role)?;
+        if active.contains(role) {
+            return Err(DirectoryFault::AlreadyThere);
         }
-        if !self.has_role(role) {
-            return Err(DirectoryFault::NoRole);
+        if !self.is_authorised(user as u16, RoleSet::empty().with(role)) {
+            return Err(DirectoryFault::NotAuthorised);
         }
-        match self.session(session) {
-            Session::Closed => Err(DirectoryFault::NoSession),
-            Session::Open { user, active } => {
-                if active.contains(role) {
-                    return Err(DirectoryFault::AlreadyThere);
-                }
-                if !self.is_authorised(user as u16, RoleSet::empty().with(role)) {
-                    return Err(DirectoryFault::NotAuthorised);
-                }
-                self.put_session(
-                    session,
-                    Session::Open {
-                        user,
-                        active: active.with(role),
-                    },
-                );
-                Ok(())
-            }
-        }
+        let active = active.with(role);
+        self.put_session(session, Some(Session { user, active }));
+        Ok(())
     }
 
     pub fn drop_role(&mut self, session: u16, role: u16) -> Result<(), DirectoryFault>
         ensures answer { answer_number result ≡ drop_answer (state_of self.old) session role }
         ensures left { state_of self.new ≡ after_drop (state_of self.old) session role }
     {
-        if session >= 64 || role >= 64 {
-            return Err(DirectoryFault::OutOfRange);
+        let Session { user, active } = self.session_for(session, role)?;
+        if !active.contains(role) {
+            return Err(DirectoryFault::NotThere);
         }
-        if !self.has_role(role) {
-            return Err(DirectoryFault::NoRole);
-        }
-        match self.session(session) {
-            Session::Closed => Err(DirectoryFault::NoSession),
-            Session::Open { user, active } => {
-                if !active.contains(role) {
-                    return Err(DirectoryFault::NotThere);
-                }
-                self.put_session(
-                    session,
-                    Session::Open {
-                        user,
-                        active: active.without(role),
-                    },
-                );
-                Ok(())
-            }
-        }
+        let active = active.without(role);
+        self.put_session(session, Some(Session { user, active }));
+        Ok(())
     }
 }

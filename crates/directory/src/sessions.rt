@@ -9,26 +9,27 @@ ghost use Rattle.directory.specs.declared.session.Which.TheVariants.{Stale};
 
 use crate::directory::Directory;
 use crate::session::{Session, Which};
-use bits::wide::{RoleSet, SessionSet};
+use bits::set::{RoleSet, SessionSet};
 
 impl Directory {
     // Whether the user may activate all of the wanted roles.
     pub fn is_authorised(&self, user: u16, wanted: RoleSet) -> bool
         ensures { result ≡ authorised (state_of self.now) user (members wanted) }
     {
-        wanted.is_subset(self.hierarchy.reach(self.assigned_roles(user)))
+        let assigned = self.user(user).unwrap_or(RoleSet::empty());
+        wanted.is_subset(self.hierarchy.reach(assigned))
     }
 
-    fn is_meant(&self, which: Which, session: Session) -> bool
+    fn is_meant(&self, which: Which, session: Option<Session>) -> bool
         ensures { result ≡ is_meant (state_of self.now) which (session_state session) }
     {
-        match (session, which) {
-            (Session::Closed, _) => false,
-            (Session::Open { .. }, Which::AllOpen) => true,
-            (Session::Open { user, .. }, Which::OfUser(named)) => user == named,
-            (Session::Open { user, active }, Which::Stale) => {
-                !self.is_authorised(user as u16, active)
-            }
+        let Some(Session { user, active }) = session else {
+            return false;
+        };
+        match which {
+            Which::AllOpen => true,
+            Which::OfUser(named) => user == named,
+            Which::Stale => !self.is_authorised(user as u16, active),
         }
     }
 
@@ -36,9 +37,9 @@ impl Directory {
         ensures { members result ≡ sessions_that (state_of self.now) which }
     {
         let mut found = SessionSet::empty();
-        for session in 0..64u16 {
-            if self.is_meant(which, self.session(session)) {
-                found = found.with(session);
+        for (number, session) in self.sessions.iter().enumerate() {
+            if self.is_meant(which, *session) {
+                found = found.with(number as u16);
             }
         }
         found
@@ -54,9 +55,9 @@ impl Directory {
     pub(crate) fn end_sessions(&mut self, which: SessionSet)
         ensures { state_of self.new ≡ ended (members which) (state_of self.old) }
     {
-        for session in 0..64u16 {
-            if which.contains(session) {
-                self.put_session(session, Session::Closed);
+        for (number, session) in self.sessions.iter_mut().enumerate() {
+            if which.contains(number as u16) {
+                *session = None;
             }
         }
     }

@@ -1,13 +1,14 @@
 // The calls on users and their assignments.
-ghost use Rattle.std.specs.Prelude.{◌≡◌};
-ghost use Rattle.directory.specs.Answers.{answer_number, answer_ends, add_user_answer, delete_user_answer, assign_answer, deassign_answer, authorised_answer};
+ghost use Rattle.std.specs.Prelude.{◌≡◌, IfOk};
+ghost use Rattle.bits.specs.Sets.{members};
+ghost use Rattle.directory.specs.Answers.{answer_number, answer_ends, user_and_role_answer, add_user_answer, delete_user_answer, assign_answer, deassign_answer, authorised_answer};
 ghost use Rattle.directory.specs.Effects.{after_add_user, delete_user_ends, after_delete_user, after_assign, deassign_ends, after_deassign};
 ghost use Rattle.directory.specs.View.{state_of};
 
 use crate::directory::Directory;
 use crate::fault::DirectoryFault;
 use crate::session::Which;
-use bits::wide::{RoleSet, SessionSet};
+use bits::set::{RoleSet, SessionSet};
 
 impl Directory {
     pub fn add_user(&mut self, user: u16) -> Result<(), DirectoryFault>
@@ -17,10 +18,10 @@ impl Directory {
         if user >= 256 {
             return Err(DirectoryFault::OutOfRange);
         }
-        if self.has_user(user) {
+        if self.user(user).is_some() {
             return Err(DirectoryFault::AlreadyThere);
         }
-        self.put_user(user, true);
+        self.put_user(user, Some(RoleSet::empty()));
         Ok(())
     }
 
@@ -33,34 +34,37 @@ impl Directory {
         if user >= 256 {
             return Err(DirectoryFault::OutOfRange);
         }
-        if !self.has_user(user) {
-            return Err(DirectoryFault::NoUser);
-        }
+        self.user(user).ok_or(DirectoryFault::NoUser)?;
         let ended = self.sessions_that(Which::OfUser(user as u8));
         self.end_sessions(ended);
-        self.put_assigned(user, RoleSet::empty());
-        self.put_user(user, false);
+        self.put_user(user, None);
         Ok(ended)
+    }
+
+    // The roles of a user who exists, for a call that also names a role.
+    fn roles_of(&self, user: u16, role: u16) -> Result<RoleSet, DirectoryFault>
+        ensures answer { answer_number result ≡ user_and_role_answer (state_of self.now) user role }
+        ensures roles { IfOk result (λ roles. members roles ≡ (state_of self.now).assigned user) }
+    {
+        if user >= 256 || role >= 64 {
+            return Err(DirectoryFault::OutOfRange);
+        }
+        let roles = self.user(user).ok_or(DirectoryFault::NoUser)?;
+        if !self.has_role(role) {
+            return Err(DirectoryFault::NoRole);
+        }
+        Ok(roles)
     }
 
     pub fn assign(&mut self, user: u16, role: u16) -> Result<(), DirectoryFault>
         ensures answer { answer_number result ≡ assign_answer (state_of self.old) user role }
         ensures left { state_of self.new ≡ after_assign (state_of self.old) user role }
     {
-        if user >= 256 || role >= 64 {
-            return Err(DirectoryFault::OutOfRange);
-        }
-        if !self.has_user(user) {
-            return Err(DirectoryFault::NoUser);
-        }
-        if !self.has_role(role) {
-            return Err(DirectoryFault::NoRole);
-        }
-        let roles = self.assigned_roles(user);
+        let roles = self.roles_of(user, role)?;
         if roles.contains(role) {
             return Err(DirectoryFault::AlreadyThere);
         }
-        self.put_assigned(user, roles.with(role));
+        self.put_user(user, Some(roles.with(role)));
         Ok(())
     }
 
@@ -70,20 +74,11 @@ impl Directory {
         ensures ended { answer_ends result ≡ deassign_ends (state_of self.old) user role }
         ensures left { state_of self.new ≡ after_deassign (state_of self.old) user role }
     {
-        if user >= 256 || role >= 64 {
-            return Err(DirectoryFault::OutOfRange);
-        }
-        if !self.has_user(user) {
-            return Err(DirectoryFault::NoUser);
-        }
-        if !self.has_role(role) {
-            return Err(DirectoryFault::NoRole);
-        }
-        let roles = self.assigned_roles(user);
+        let roles = self.roles_of(user, role)?;
         if !roles.contains(role) {
             return Err(DirectoryFault::NotThere);
         }
-        self.put_assigned(user, roles.without(role));
+        self.put_user(user, Some(roles.without(role)));
         Ok(self.review())
     }
 
@@ -91,15 +86,7 @@ impl Directory {
     pub fn authorised(&self, user: u16, role: u16) -> Result<(), DirectoryFault>
         ensures { answer_number result ≡ authorised_answer (state_of self.now) user role }
     {
-        if user >= 256 || role >= 64 {
-            return Err(DirectoryFault::OutOfRange);
-        }
-        if !self.has_user(user) {
-            return Err(DirectoryFault::NoUser);
-        }
-        if !self.has_role(role) {
-            return Err(DirectoryFault::NoRole);
-        }
+        self.roles_of(user, role)?;
         if !self.is_authorised(user, RoleSet::empty().with(role)) {
             return Err(DirectoryFault::NotAuthorised);
         }

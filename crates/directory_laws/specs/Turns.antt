@@ -1,6 +1,6 @@
 -- Turns: calls with what they were answered.
 use Rattle.std.specs.Prelude.{ℕ, Bool}
-use Rattle.bits.specs.Sets.{members}
+use Rattle.directory.specs.Answers.{answer_number, answer_ends}
 use Rattle.directory.specs.State.{DirectoryState}
 use Rattle.directory_laws.specs.Steps.{step_answer, step_ends, after_step}
 use Rattle.directory_laws.specs.declared.call.DirectoryCall.{DirectoryCall}
@@ -16,7 +16,7 @@ abbrev pub as_told : DirectoryCall → ℕ → (ℕ → Bool) → Told
 as_told c n e = record { call = c; number = n; ended = e }
 
 abbrev pub told : Turn → Told
-told t = as_told t.call t.number (members t.ended)
+told t = as_told t.call (answer_number t.answer) (answer_ends t.answer)
 
 -- the turn with the answer that its call has in this state
 abbrev pub with_answer : DirectoryState → Told → Told

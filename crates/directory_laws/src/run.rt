@@ -7,47 +7,20 @@ ghost use Rattle.directory.specs.State.{bare};
 ghost use Rattle.directory.specs.View.{state_of};
 ghost use Rattle.directory_laws.specs.Steps.{step_answer, step_ends, after_step};
 ghost use Rattle.directory_laws.specs.Soundness.{Sound, Continues, takes_away, EndsByLoss};
-ghost use Rattle.directory_laws.specs.Turns.{told, as_told, with_answer, after_turn};
+ghost use Rattle.directory_laws.specs.Turns.{told, with_answer, after_turn};
 
 use crate::call::DirectoryCall;
 use crate::turn::Turn;
-use bits::wide::SessionSet;
+use bits::set::SessionSet;
 use directory::directory::Directory;
 use directory::fault::DirectoryFault;
-
-impl Turn {
-    // A call that has not been made.
-    pub fn new(call: DirectoryCall) -> Turn
-        ensures { told result ≡ as_told call 0 none }
-    {
-        Turn::answered(call, Ok(SessionSet::empty()))
-    }
-
-    fn answered(call: DirectoryCall, answer: Result<SessionSet, DirectoryFault>) -> Turn
-        ensures { told result ≡ as_told call (answer_number answer) (answer_ends answer) }
-    {
-        match answer {
-            Ok(ended) => Turn {
-                call,
-                number: 0,
-                ended,
-            },
-            Err(fault) => Turn {
-                call,
-                number: fault.number(),
-                ended: SessionSet::empty(),
-            },
-        }
-    }
-}
 
 // The answer of a call that ends no session.
 fn none_ended(answer: Result<(), DirectoryFault>) -> Result<SessionSet, DirectoryFault>
     ensures answer { answer_number result ≡ answer_number answer }
     ensures ended { answer_ends result ≡ none }
 {
-    answer?;
-    Ok(SessionSet::empty())
+    answer.map(|()| SessionSet::empty())
 }
 
 // Makes one call. It gives back the sessions that ended by it.
@@ -97,10 +70,8 @@ pub fn run(turns: &mut [Turn]) -> Directory
     ensures ends { (call : DirectoryCall) (s : ℕ) → takes_away call ≡ true → EndsByLoss (state_of result) call s }
 {
     let mut directory = Directory::new();
-    for at in 0..turns.len() {
-        let call = turns[at].call;
-        let answer = apply(&mut directory, call);
-        turns[at] = Turn::answered(call, answer);
+    for turn in turns.iter_mut() {
+        turn.answer = apply(&mut directory, turn.call);
     }
     directory
 }

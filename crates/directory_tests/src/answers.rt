@@ -1,18 +1,9 @@
-// The number of an answer.
+// The number of an answer: 0 where it was accepted.
 use directory::fault::DirectoryFault;
-use hierarchy::fault::HierarchyFault;
-use hierarchy::hierarchy::Hierarchy;
 
-pub fn number<T: Drop>(answer: Result<T, DirectoryFault>) -> u8 {
+pub fn number<T: Drop, F: Into<DirectoryFault>>(answer: Result<T, F>) -> u8 {
     match answer {
         Ok(_) => 0,
-        Err(fault) => fault.number(),
-    }
-}
-
-pub fn edit_number(answer: Result<Hierarchy, HierarchyFault>) -> u8 {
-    match answer {
-        Ok(_) => 0,
-        Err(fault) => fault.number(),
+        Err(fault) => fault.into().number(),
     }
 }

@@ -1,6 +1,6 @@
 // Hierarchies in which each role has at most one immediate junior.
-use crate::answers::edit_number;
-use bits::wide::RoleSet;
+use crate::answers::number;
+use bits::set::RoleSet;
 use hierarchy::fault::HierarchyFault;
 use hierarchy::hierarchy::Hierarchy;
 use std::test::Fail;
@@ -22,12 +22,12 @@ fn chain_of_all_roles(rt: HostRuntime) -> Result<(), Fail> {
     assert_eq!(rt; chain.reach(RoleSet::empty()).len(), 0);
     assert!(rt; chain.above_or_equal(0, 63) && !chain.above_or_equal(63, 0));
     assert!(rt; chain.above_or_equal(63, 63) && !chain.above_or_equal(64, 64));
-    assert_eq!(rt; edit_number(chain.with_edge(63, 0)), 11);
-    assert_eq!(rt; edit_number(chain.with_edge(5, 5)), 11);
-    assert_eq!(rt; edit_number(chain.with_edge(5, 6)), 9);
-    assert_eq!(rt; edit_number(chain.with_edge(64, 0)), 1);
-    assert_eq!(rt; edit_number(chain.without_edge(5, 7)), 10);
-    assert_eq!(rt; edit_number(chain.without_edge(0, 64)), 1);
+    assert_eq!(rt; number(chain.with_edge(63, 0)), 11);
+    assert_eq!(rt; number(chain.with_edge(5, 5)), 11);
+    assert_eq!(rt; number(chain.with_edge(5, 6)), 9);
+    assert_eq!(rt; number(chain.with_edge(64, 0)), 1);
+    assert_eq!(rt; number(chain.without_edge(5, 7)), 10);
+    assert_eq!(rt; number(chain.without_edge(0, 64)), 1);
     Ok(())
 }
 
@@ -36,7 +36,7 @@ fn chain_that_is_cut(rt: HostRuntime) -> Result<(), Fail> {
     let cut = chain()?.without_edge(31, 32)?;
     assert_eq!(rt; cut.reach(RoleSet::empty().with(0)).len(), 32);
     assert!(rt; cut.above_or_equal(32, 63) && !cut.above_or_equal(31, 32));
-    assert_eq!(rt; edit_number(cut.with_edge(63, 0)), 0);
+    assert_eq!(rt; number(cut.with_edge(63, 0)), 0);
     let gone = chain()?.without_role(31);
     assert!(rt; !gone.above_or_equal(30, 32) && gone.above_or_equal(32, 63));
     assert_eq!(rt; gone.reach(RoleSet::empty().with(31)).len(), 1);

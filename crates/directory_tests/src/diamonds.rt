@@ -1,6 +1,6 @@
 // Hierarchies in which a role has two immediate juniors.
-use crate::answers::{edit_number, number};
-use bits::wide::RoleSet;
+use crate::answers::number;
+use bits::set::RoleSet;
 use directory::directory::Directory;
 use directory::fault::DirectoryFault;
 use hierarchy::fault::HierarchyFault;
@@ -20,8 +20,8 @@ fn diamond() -> Result<Hierarchy, HierarchyFault> {
 fn diamond_keeps_its_other_side(rt: HostRuntime) -> Result<(), Fail> {
     let diamond = diamond()?;
     assert_eq!(rt; diamond.reach(RoleSet::empty().with(0)).bits(), 15);
-    assert_eq!(rt; edit_number(diamond.with_edge(3, 0)), 11);
-    assert_eq!(rt; edit_number(diamond.with_edge(1, 2)), 0);
+    assert_eq!(rt; number(diamond.with_edge(3, 0)), 11);
+    assert_eq!(rt; number(diamond.with_edge(1, 2)), 0);
     let half = diamond.without_edge(1, 3)?;
     assert!(rt; half.above_or_equal(0, 3) && !half.above_or_equal(1, 3));
     assert!(rt; !half.without_role(2).above_or_equal(0, 3));

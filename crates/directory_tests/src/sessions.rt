@@ -1,6 +1,6 @@
 // Sessions, and users and roles that are added anew.
 use crate::answers::number;
-use bits::wide::RoleSet;
+use bits::set::RoleSet;
 use directory::directory::Directory;
 use directory::fault::DirectoryFault;
 use std::test::Fail;
@@ -46,14 +46,9 @@ fn ranges_and_order_of_questions(rt: HostRuntime) -> Result<(), Fail> {
 fn activation_is_of_the_named_role(rt: HostRuntime) -> Result<(), Fail> {
     let mut directory = office()?;
     directory.open_session(3, 1)?;
-    assert!(rt; directory.session(3).active().is_empty());
+    assert!(rt; directory.active_roles(3).is_empty());
     directory.activate_role(3, 5)?;
-    assert!(rt;
-        directory
-            .session(3)
-            .active()
-            .equals(RoleSet::empty().with(5))
-    );
+    assert!(rt; directory.active_roles(3).equals(RoleSet::empty().with(5)));
     assert_eq!(rt; number(directory.activate_role(3, 5)), 9);
     assert_eq!(rt; number(directory.drop_role(3, 6)), 10);
     assert_eq!(rt; number(directory.open_session(3, 2)), 9);

@@ -12,8 +12,8 @@ mod scenario;
 fn main(rt: HostRuntime) -> io::Result<()> {
     let mut turns = scenario::turns();
     let directory = run(&mut turns);
-    for turn in turns.iter() {
-        printing::print_turn(rt, *turn)?;
+    for turn in turns {
+        printing::print_turn(rt, turn)?;
     }
     let open = directory.open_sessions();
     println!(rt; "sessions still open: {open}")

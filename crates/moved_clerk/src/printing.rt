@@ -1,9 +1,10 @@
 // A line for each call: what was asked, what was answered, and which sessions ended by it.
-use bits::wide::SessionSet;
+use bits::set::SessionSet;
 use directory_laws::call::DirectoryCall;
 use directory_laws::turn::Turn;
 use std::io;
 
+// No `Display` of the call: the wording is this program's, and the type is of another crate.
 fn print_call(rt: HostRuntime, call: DirectoryCall) -> io::Result<()> {
     match call {
         DirectoryCall::AddUser { user } => print!(rt; "add user {user}"),
@@ -49,11 +50,14 @@ fn print_ended(rt: HostRuntime, ended: SessionSet) -> io::Result<()> {
 
 pub fn print_turn(rt: HostRuntime, turn: Turn) -> io::Result<()> {
     print_call(rt, turn.call)?;
-    let number = turn.number;
-    if number == 0 {
-        print!(rt; ": ok")?;
-    } else {
-        print!(rt; ": no {number}")?;
+    match turn.answer {
+        Ok(ended) => {
+            print!(rt; ": ok")?;
+            print_ended(rt, ended)
+        }
+        Err(fault) => {
+            let number = fault.number();
+            println!(rt; ": no {number}")
+        }
     }
-    print_ended(rt, turn.ended)
 }

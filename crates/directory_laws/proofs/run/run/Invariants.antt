@@ -5,7 +5,7 @@ use Rattle.directory.specs.View.{state_of}
 use Rattle.directory_laws.specs.Turns.{told, with_answer, after_turn}
 use Rattle.directory_laws.proofs.run.run.Given as goal
 
-abbrev pub invariant-loop-at : goal.invariant-loop-at
-invariant-loop-at l =
-    (map told l.turns ≡ first_answered with_answer after_turn l.at bare (map told l.initial.turns))
-    × (state_of l.directory ≡ after_first after_turn l.at bare (map told l.initial.turns))
+abbrev pub invariant-loop-turn : goal.invariant-loop-turn
+invariant-loop-turn l =
+    (map told l.turns ≡ first_answered with_answer after_turn l.turn-index bare (map told l.initial.turns))
+    × (state_of l.directory ≡ after_first after_turn l.turn-index bare (map told l.initial.turns))

@@ -1,9 +1,12 @@
-use Rattle.std.proofs.Common.{◌≡◌}
-use Rattle.vocabulary.specs.Tables.{so_far}
+-- The sessions that the loop has passed are closed if they are meant.
+use Rattle.std.proofs.Common.{◌≡◌, length}
+use Rattle.vocabulary.proofs.Sweeps.{swept}
 use Rattle.bits.specs.Sets.{members}
-use Rattle.directory.specs.Sessions.{ended}
-use Rattle.directory.specs.View.{state_of}
+use Rattle.directory.specs.View.{sessions_in}
+use Rattle.directory.proofs.Endings.{closed_if}
 use Rattle.directory.proofs.directory.Directory.end_sessions.Given as goal
 
-abbrev pub invariant-loop-session : goal.invariant-loop-session
-invariant-loop-session l = state_of l.self ≡ ended (so_far (members l.which) l.session) (state_of l.initial.self)
+abbrev pub invariant-loop-number : goal.invariant-loop-number
+invariant-loop-number l =
+    (length l.session-items ≡ 64)
+    × (sessions_in l.session-items ≡ swept (closed_if (members l.which)) (sessions_in l.initial.session-items) l.number)

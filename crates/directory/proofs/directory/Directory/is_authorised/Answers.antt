@@ -11,6 +11,7 @@ returns c =
     let d = state_of c.args.self.now in
     let wanted = c.args.wanted in
     let few : wanted.bits < 2 ^ 64 = search rules in
-    let reached : members c.reach.result ≡ reach_of d.inherits (d.assigned c.args.user) = c.reach.ensures.value ∙ ap (reach_of d.inherits) c.assigned_roles.ensures in
+    let assigned : members c.unwrap_or-assigned.result ≡ d.assigned c.args.user = search rules in
+    let reached : members c.reach.result ≡ reach_of d.inherits (d.assigned c.args.user) = c.reach.ensures.value ∙ ap (reach_of d.inherits) assigned in
     all_in_decided (members wanted) (reach_of d.inherits (d.assigned c.args.user)) c.is_subset.result (members_inside wanted few)
     (subst (λ f. Decides c.is_subset.result (Within (members wanted) f)) reached c.is_subset.ensures)

@@ -1,11 +1,9 @@
-use Rattle.std.proofs.Common.{◌≡◌, ℕ, Bool, false, refl}
+use Rattle.std.proofs.Common.{◌≡◌, ℕ, Bool, false, is_some, None, refl}
 use Rattle.vocabulary.proofs.Lists.{fresh}
-use Rattle.bits.specs.Sets.{members, none}
-use Rattle.bits.proofs.Laws.{zero_none}
-use Rattle.hierarchy.specs.Inheritance.{Pairs, no_roles}
+use Rattle.bits.specs.Sets.{none}
+use Rattle.hierarchy.specs.Inheritance.{Pairs}
 use Rattle.directory.specs.State.{SessionState, closed, DirectoryState}
-use Rattle.directory.specs.View.{session_state}
-use Rattle.directory.specs.declared.session.Session.TheVariants.{Closed}
+use Rattle.directory.specs.View.{roles_in, session_state}
 use Rattle.directory.proofs.directory.Directory.new.Goals as goal
 
 -- equal tables make equal states
@@ -16,8 +14,8 @@ same_state e f g h k = cc
 pub returns : goal.returns
 returns c =
     same_state
-    (fresh (λ (b : Bool). b) 256 false false false refl refl)
+    (fresh is_some 256 None None false refl refl)
     c.empty.ensures.members
-    (fresh members 256 c.empty-2.result no_roles none c.empty-2.ensures.members zero_none)
+    (fresh roles_in 256 None None none refl refl)
     c.new.ensures
-    (fresh session_state 64 Closed Closed closed refl refl)
+    (fresh session_state 64 None None closed refl refl)

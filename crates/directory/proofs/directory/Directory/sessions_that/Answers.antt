@@ -9,29 +9,29 @@ use Rattle.directory.specs.View.{state_of}
 use Rattle.directory.proofs.directory.Directory.sessions_that.Goals as goal
 use Rattle.directory.proofs.directory.Directory.sessions_that.Goals.{then-is_meant, else-is_meant}
 
-pub loop-session-init : goal.loop-session-init
-loop-session-init c = c.empty-found.ensures.members ∙ marks_none (λ s. is_meant (state_of c.args.self.now) c.args.which ((state_of c.args.self.now).session s))
+pub loop-number-init : goal.loop-number-init
+loop-number-init c = c.empty-found.ensures.members ∙ marks_none (λ s. is_meant (state_of c.args.self.now) c.args.which ((state_of c.args.self.now).session s))
 
-pub loop-session-preserved : goal.loop-session-preserved
-loop-session-preserved c =
+pub loop-number-preserved : goal.loop-number-preserved
+loop-number-preserved c =
     let d = state_of c.args.self.now in
     let meant : ℕ → Bool = λ s. is_meant d c.args.which (d.session s) in
-    let i = c.loop-session.session in
-    let told : c.is_meant.result ≡ meant i = c.is_meant.ensures ∙ ap (is_meant d c.args.which) c.session.ensures in
+    let i = c.loop-number.number in
+    let told : c.is_meant.result ≡ meant i = c.is_meant.ensures in
     let inside : ltb i 64 ≡ true = lt-ltb i 64 (omega arith) in
     elim c.if-is_meant.branch [
       | then-is_meant w ↦
           ap members w.found-is
           ∙ w.with-found.ensures.members
           ∙ cond-true (ltb i 64) _ _ inside
-          ∙ ap (put i true) c.loop-session.invariant
+          ∙ ap (put i true) c.loop-number.invariant
           ∙ marks_yes meant i (sym told ∙ w.if-is_meant.true)
-      | else-is_meant w ↦ ap members w.found-is ∙ c.loop-session.invariant ∙ marks_no meant i (sym told ∙ w.if-is_meant.false)
+      | else-is_meant w ↦ ap members w.found-is ∙ c.loop-number.invariant ∙ marks_no meant i (sym told ∙ w.if-is_meant.false)
     ]
 
 pub returns : goal.returns
 unfolding sessions_that
 returns c =
     let d = state_of c.args.self.now in
-    let end : c.loop-session.session ≡ 64 = omega arith in
-    c.loop-session.invariant ∙ ap (so_far (λ s. is_meant d c.args.which (d.session s))) end
+    let end : c.loop-number.number ≡ 64 = omega arith in
+    c.loop-number.invariant ∙ ap (so_far (λ s. is_meant d c.args.which (d.session s))) end

@@ -1,8 +1,8 @@
 -- What an answer tells: its number, its layer, and the values that it carries.
-use Rattle.std.specs.Prelude.{ℕ}
+use Rattle.std.specs.Prelude.{ℕ, Ok, Err, Result}
 use Rattle.register.specs.Answers.{fault_number as register_number}
-use Rattle.rules.specs.declared.answer.Answer.{Answer}
-use Rattle.rules.specs.declared.answer.Answer.TheVariants.{Accepted, Permit, Counts as CountsAnswer, Refused}
+use Rattle.rules.specs.declared.answer.Given.{Given}
+use Rattle.rules.specs.declared.answer.Given.TheVariants.{Nothing, Permit, Counts as CountsGiven}
 use Rattle.rules.specs.declared.fault.KernelFault.{KernelFault}
 use Rattle.rules.specs.declared.fault.KernelFault.TheVariants.{OutOfRange, NoUser, NoRole, NoObject, NoOwner, NoSession, NotOffered, WrongSort, AlreadyThere, NotThere, Circle, NotAuthorised, NoPlace, NotGranted, NoConsent, PlacesTaken, SerialsUsedUp, NotOpen, NotCovered, Register}
 
@@ -82,8 +82,12 @@ accepted v = record { number = 0; layer = 0; values = v }
 abbrev pub refused : ℕ → ℕ → Told
 refused n l = record { number = n; layer = l; values = no_values }
 
-abbrev pub told : Answer → Told
-told Accepted = accepted no_values
-told (Permit o n) = accepted (permit_values o n)
-told (CountsAnswer c) = accepted (count_values c.issued c.entered c.handed_back c.lapsed c.«open»)
-told (Refused f) = refused (fault_number f) (fault_layer f)
+-- what an accepted call gives back
+abbrev pub given : Given → Values
+given Nothing = no_values
+given (Permit o n) = permit_values o n
+given (CountsGiven c) = count_values c.issued c.entered c.handed_back c.lapsed c.«open»
+
+abbrev pub told : Result Given KernelFault → Told
+told (Ok g) = accepted (given g)
+told (Err f) = refused (fault_number f) (fault_layer f)

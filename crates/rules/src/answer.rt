@@ -2,10 +2,12 @@
 use crate::fault::KernelFault;
 use ledger::counts::Counts;
 
-#[derive(Clone, Copy)]
-pub enum Answer {
-    Accepted,
+// What an accepted call gives back.
+#[derive(Clone, Copy, PartialEq, Eq, Debug)]
+pub enum Given {
+    Nothing,
     Permit { owner: u16, serial: u16 },
     Counts(Counts),
-    Refused(KernelFault),
 }
+
+pub type Answer = Result<Given, KernelFault>;

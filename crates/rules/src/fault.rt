@@ -4,7 +4,7 @@ ghost use Rattle.rules.specs.Told.{fault_number, fault_layer};
 
 use register::fault::RegisterFault;
 
-#[derive(Clone, Copy)]
+#[derive(Clone, Copy, PartialEq, Eq, Debug)]
 pub enum KernelFault {
     OutOfRange,
     NoUser,
@@ -29,6 +29,7 @@ pub enum KernelFault {
 }
 
 impl KernelFault {
+    // A table: an enum with a value in one of its cases has no number to cast to.
     pub fn number(self) -> u8
         ensures { result ≡ fault_number self }
     {

@@ -1,15 +1,16 @@
 -- No kind has more than four fields.
-use Rattle.std.proofs.Common.{ℕ, ◌<◌, ◌≤◌, Bool, true, ◌&&◌, ltb, List, [], ◌∷◌, refl, arith}
-use Rattle.std.proofs.ByRecursion.{All-get_or, Decides-by_and}
-use Rattle.std.proofs.lemmas.Bool.Decides.{Decides-ltb}
+use Rattle.std.proofs.Common.{ℕ, zero, suc, ◌≡◌, ◌≤◌, Bool, true, ◌&&◌, leb, List, [], ◌∷◌, get_or, refl, arith}
+use Rattle.std.proofs.lemmas.Bool.{and_parts, leb-true}
 use Rattle.calls.specs.Layout.{field_count, field_counts}
 
 abbrev few : List ℕ → Bool
 few [] = true
-few (n ∷ ns) = ltb n 5 && few ns
+few (n ∷ ns) = leb n 4 && few ns
 
-pub field_count_few : (k : ℕ) → k < 31 → field_count k ≤ 4
-field_count_few k h =
-    let all = (Decides-by_and (λ n. ltb n 5) (λ n. n < 5) few (λ n. Decides-ltb n 5) refl (λ _ _. refl) field_counts).0 refl in
-    let one : field_count k < 5 = All-get_or (λ n. n < 5) field_counts k 0 h all in
-    omega arith
+few_at : (ns : List ℕ) (k : ℕ) → few ns ≡ true → get_or ns k 0 ≤ 4
+few_at [] k h = omega arith
+few_at (n ∷ ns) zero h = leb-true n 4 (and_parts (leb n 4) (few ns) h).0
+few_at (n ∷ ns) (suc k) h = few_at ns k (and_parts (leb n 4) (few ns) h).1
+
+pub field_count_few : (k : ℕ) → field_count k ≤ 4
+field_count_few k = few_at field_counts k refl

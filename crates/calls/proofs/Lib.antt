@@ -1,4 +1,3 @@
 mod Few
 pub mod Known
-mod Spelled
 pub mod Told

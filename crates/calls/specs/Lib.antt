@@ -1,4 +1,3 @@
 pub mod Layout
-pub mod Spelling
 pub mod Name
 pub mod Encoding

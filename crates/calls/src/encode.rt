@@ -7,14 +7,21 @@ use crate::command::{Command, Consent, Directory, Question, Session};
 use crate::encoded::Encoded;
 use crate::layout::MAX_FIELDS;
 
-fn encoded(kind: u16, count: usize, words: [u16; MAX_FIELDS]) -> Encoded
-    requires { count ≤ 4 }
-    ensures { written result ≡ laid kind (take count words) }
-{
-    Encoded { kind, count, words }
-}
-
 impl Encoded {
+    // A kind with its fields, in their order.
+    fn new<const N: usize>(kind: u16, fields: [u16; N]) -> Encoded
+        requires { N ≤ 4 }
+        ensures { written result ≡ laid kind fields.entry }
+    {
+        let mut words = [0; MAX_FIELDS];
+        words[..N].copy_from_slice(&fields);
+        Encoded {
+            kind,
+            count: N,
+            words,
+        }
+    }
+
     pub fn kind(&self) -> u16
         ensures { result ≡ (written self.now).kind }
     {
@@ -35,51 +42,51 @@ impl Directory {
         ensures { written result ≡ directory_layout self }
     {
         match self {
-            Directory::AddUser { user } => encoded(1, 1, [user, 0, 0, 0]),
-            Directory::DeleteUser { user } => encoded(2, 1, [user, 0, 0, 0]),
-            Directory::AddRole { role } => encoded(3, 1, [role, 0, 0, 0]),
-            Directory::DeleteRole { role } => encoded(4, 1, [role, 0, 0, 0]),
-            Directory::Assign { user, role } => encoded(5, 2, [user, role, 0, 0]),
-            Directory::Deassign { user, role } => encoded(6, 2, [user, role, 0, 0]),
+            Directory::AddUser { user } => Encoded::new(1, [user]),
+            Directory::DeleteUser { user } => Encoded::new(2, [user]),
+            Directory::AddRole { role } => Encoded::new(3, [role]),
+            Directory::DeleteRole { role } => Encoded::new(4, [role]),
+            Directory::Assign { user, role } => Encoded::new(5, [user, role]),
+            Directory::Deassign { user, role } => Encoded::new(6, [user, role]),
             Directory::AddInheritance {
                 ascendant,
                 descendant,
-            } => encoded(7, 2, [ascendant, descendant, 0, 0]),
+            } => Encoded::new(7, [ascendant, descendant]),
             Directory::DeleteInheritance {
                 ascendant,
                 descendant,
-            } => encoded(8, 2, [ascendant, descendant, 0, 0]),
-            Directory::AddPlainObject { object } => encoded(9, 1, [object, 0, 0, 0]),
+            } => Encoded::new(8, [ascendant, descendant]),
+            Directory::AddPlainObject { object } => Encoded::new(9, [object]),
             Directory::AddPersonalObject {
                 object,
                 owner,
                 types,
-            } => encoded(10, 3, [object, owner, types, 0]),
-            Directory::DeleteObject { object } => encoded(11, 1, [object, 0, 0, 0]),
+            } => Encoded::new(10, [object, owner, types]),
+            Directory::DeleteObject { object } => Encoded::new(11, [object]),
             Directory::GrantPlain {
                 operation,
                 object,
                 role,
-            } => encoded(12, 3, [operation, object, role, 0]),
+            } => Encoded::new(12, [operation, object, role]),
             Directory::RevokePlain {
                 operation,
                 object,
                 role,
-            } => encoded(13, 3, [operation, object, role, 0]),
+            } => Encoded::new(13, [operation, object, role]),
             Directory::GrantPrivate {
                 operation,
                 object,
                 purpose,
                 role,
-            } => encoded(14, 4, [operation, object, purpose, role]),
+            } => Encoded::new(14, [operation, object, purpose, role]),
             Directory::RevokePrivate {
                 operation,
                 object,
                 purpose,
                 role,
-            } => encoded(15, 4, [operation, object, purpose, role]),
-            Directory::AddOwner { owner } => encoded(16, 1, [owner, 0, 0, 0]),
-            Directory::DeleteOwner { owner } => encoded(17, 1, [owner, 0, 0, 0]),
+            } => Encoded::new(15, [operation, object, purpose, role]),
+            Directory::AddOwner { owner } => Encoded::new(16, [owner]),
+            Directory::DeleteOwner { owner } => Encoded::new(17, [owner]),
         }
     }
 }
@@ -89,18 +96,18 @@ impl Consent {
         ensures { written result ≡ consent_layout self }
     {
         match self {
-            Consent::Offer { purpose, data_type } => encoded(18, 2, [purpose, data_type, 0, 0]),
-            Consent::Retract { purpose, data_type } => encoded(19, 2, [purpose, data_type, 0, 0]),
+            Consent::Offer { purpose, data_type } => Encoded::new(18, [purpose, data_type]),
+            Consent::Retract { purpose, data_type } => Encoded::new(19, [purpose, data_type]),
             Consent::Give {
                 owner,
                 purpose,
                 data_type,
-            } => encoded(20, 3, [owner, purpose, data_type, 0]),
+            } => Encoded::new(20, [owner, purpose, data_type]),
             Consent::Withdraw {
                 owner,
                 purpose,
                 data_type,
-            } => encoded(21, 3, [owner, purpose, data_type, 0]),
+            } => Encoded::new(21, [owner, purpose, data_type]),
         }
     }
 }
@@ -110,27 +117,27 @@ impl Session {
         ensures { written result ≡ session_layout self }
     {
         match self {
-            Session::Open { session, user } => encoded(22, 2, [session, user, 0, 0]),
-            Session::End { session } => encoded(23, 1, [session, 0, 0, 0]),
-            Session::ActivateRole { session, role } => encoded(24, 2, [session, role, 0, 0]),
-            Session::DropRole { session, role } => encoded(25, 2, [session, role, 0, 0]),
+            Session::Open { session, user } => Encoded::new(22, [session, user]),
+            Session::End { session } => Encoded::new(23, [session]),
+            Session::ActivateRole { session, role } => Encoded::new(24, [session, role]),
+            Session::DropRole { session, role } => Encoded::new(25, [session, role]),
             Session::AccessPlain {
                 session,
                 operation,
                 object,
-            } => encoded(26, 3, [session, operation, object, 0]),
+            } => Encoded::new(26, [session, operation, object]),
             Session::Use {
                 session,
                 operation,
                 object,
                 purpose,
-            } => encoded(27, 4, [session, operation, object, purpose]),
+            } => Encoded::new(27, [session, operation, object, purpose]),
             Session::Look {
                 session,
                 operation,
                 object,
                 purpose,
-            } => encoded(28, 4, [session, operation, object, purpose]),
+            } => Encoded::new(28, [session, operation, object, purpose]),
         }
     }
 }
@@ -140,12 +147,12 @@ impl Question {
         ensures { written result ≡ question_layout self }
     {
         match self {
-            Question::Authorised { user, role } => encoded(29, 2, [user, role, 0, 0]),
+            Question::Authorised { user, role } => Encoded::new(29, [user, role]),
             Question::Consented {
                 owner,
                 purpose,
                 data_type,
-            } => encoded(30, 3, [owner, purpose, data_type, 0]),
+            } => Encoded::new(30, [owner, purpose, data_type]),
         }
     }
 }

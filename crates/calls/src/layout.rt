@@ -1,16 +1,16 @@
-// From the numbers of a record, its kind and its fields, to the command.
+// From the numbers of a record, its kind and its fields, to the command. A kind is a number of the format, and any
+// number may stand in its place; the enum of the kinds is `Command`, and a second one would name all thirty again.
 ghost use Rattle.std.specs.Prelude.{◌≡◌, ℕ, ◌≤◌, ◌&&◌, length, is_some, IfSome, if◌then◌else◌, Some, None, ◌==◌};
 ghost use Rattle.calls.specs.declared.command.Command.{Command as AnyCommand};
-ghost use Rattle.calls.specs.Layout.{layout, laid, directory_layout, consent_layout, session_layout, question_layout, family_of, family_of_kind, field_count, known};
-ghost use Rattle.calls.specs.Spelling.{Spells};
+ghost use Rattle.calls.specs.Layout.{layout, laid, family_of, family_of_kind, field_count, known};
 
 use crate::command::{Command, Consent, Directory, Family, Question, Session};
 
 // No command has more fields.
 pub const MAX_FIELDS: usize = 4;
 
-// How many fields a record of each kind has.
-const FIELD_COUNTS: [u8; 31] = [
+// How many fields a record of each kind has, which a reader asks before it has the fields.
+const FIELD_COUNTS: [usize; 31] = [
     0, // no kind
     1, // 1 add user
     1, // 2 delete user
@@ -44,22 +44,12 @@ const FIELD_COUNTS: [u8; 31] = [
     3, // 30 consent
 ];
 
-fn count_at(kind: u16) -> u8
-    requires { kind ≤ 30 }
-    ensures { result ≡ field_count kind }
-{
-    FIELD_COUNTS[kind as usize]
-}
-
 // How many fields a record of this kind has; 0 where there is no such kind.
 pub fn fields_of(kind: u16) -> usize
     ensures value { result ≡ field_count kind }
     ensures few { result ≤ 4 }
 {
-    if kind > 30 {
-        return 0;
-    }
-    count_at(kind) as usize
+    FIELD_COUNTS.get(kind as usize).copied().unwrap_or(0)
 }
 
 // The same, with none where there is no such kind.
@@ -88,178 +78,117 @@ impl Family {
     }
 }
 
-impl Directory {
-    fn from_fields(kind: u16, fields: &[u16]) -> Directory
-        requires { (1 ≤ kind) × ((kind ≤ 17) × (length fields.now ≡ field_count kind)) }
-        ensures { Spells (directory_layout result) kind fields.now }
-    {
-        match kind {
-            1 => Directory::AddUser { user: fields[0] },
-            2 => Directory::DeleteUser { user: fields[0] },
-            3 => Directory::AddRole { role: fields[0] },
-            4 => Directory::DeleteRole { role: fields[0] },
-            5 => Directory::Assign {
-                user: fields[0],
-                role: fields[1],
-            },
-            6 => Directory::Deassign {
-                user: fields[0],
-                role: fields[1],
-            },
-            7 => Directory::AddInheritance {
-                ascendant: fields[0],
-                descendant: fields[1],
-            },
-            8 => Directory::DeleteInheritance {
-                ascendant: fields[0],
-                descendant: fields[1],
-            },
-            9 => Directory::AddPlainObject { object: fields[0] },
-            10 => Directory::AddPersonalObject {
-                object: fields[0],
-                owner: fields[1],
-                types: fields[2],
-            },
-            11 => Directory::DeleteObject { object: fields[0] },
-            12 => Directory::GrantPlain {
-                operation: fields[0],
-                object: fields[1],
-                role: fields[2],
-            },
-            13 => Directory::RevokePlain {
-                operation: fields[0],
-                object: fields[1],
-                role: fields[2],
-            },
-            14 => Directory::GrantPrivate {
-                operation: fields[0],
-                object: fields[1],
-                purpose: fields[2],
-                role: fields[3],
-            },
-            15 => Directory::RevokePrivate {
-                operation: fields[0],
-                object: fields[1],
-                purpose: fields[2],
-                role: fields[3],
-            },
-            16 => Directory::AddOwner { owner: fields[0] },
-            _ => Directory::DeleteOwner { owner: fields[0] },
-        }
-    }
-}
-
-impl Consent {
-    fn from_fields(kind: u16, fields: &[u16]) -> Consent
-        requires { (18 ≤ kind) × ((kind ≤ 21) × (length fields.now ≡ field_count kind)) }
-        ensures { Spells (consent_layout result) kind fields.now }
-    {
-        match kind {
-            18 => Consent::Offer {
-                purpose: fields[0],
-                data_type: fields[1],
-            },
-            19 => Consent::Retract {
-                purpose: fields[0],
-                data_type: fields[1],
-            },
-            20 => Consent::Give {
-                owner: fields[0],
-                purpose: fields[1],
-                data_type: fields[2],
-            },
-            _ => Consent::Withdraw {
-                owner: fields[0],
-                purpose: fields[1],
-                data_type: fields[2],
-            },
-        }
-    }
-}
-
-impl Session {
-    fn from_fields(kind: u16, fields: &[u16]) -> Session
-        requires { (22 ≤ kind) × ((kind ≤ 28) × (length fields.now ≡ field_count kind)) }
-        ensures { Spells (session_layout result) kind fields.now }
-    {
-        match kind {
-            22 => Session::Open {
-                session: fields[0],
-                user: fields[1],
-            },
-            23 => Session::End { session: fields[0] },
-            24 => Session::ActivateRole {
-                session: fields[0],
-                role: fields[1],
-            },
-            25 => Session::DropRole {
-                session: fields[0],
-                role: fields[1],
-            },
-            26 => Session::AccessPlain {
-                session: fields[0],
-                operation: fields[1],
-                object: fields[2],
-            },
-            27 => Session::Use {
-                session: fields[0],
-                operation: fields[1],
-                object: fields[2],
-                purpose: fields[3],
-            },
-            _ => Session::Look {
-                session: fields[0],
-                operation: fields[1],
-                object: fields[2],
-                purpose: fields[3],
-            },
-        }
-    }
-}
-
-impl Question {
-    fn from_fields(kind: u16, fields: &[u16]) -> Question
-        requires { (29 ≤ kind) × ((kind ≤ 30) × (length fields.now ≡ field_count kind)) }
-        ensures { Spells (question_layout result) kind fields.now }
-    {
-        match kind {
-            29 => Question::Authorised {
-                user: fields[0],
-                role: fields[1],
-            },
-            _ => Question::Consented {
-                owner: fields[0],
-                purpose: fields[1],
-                data_type: fields[2],
-            },
-        }
-    }
-}
-
 impl Command {
-    fn of(family: Family, kind: u16, fields: &[u16]) -> Command
-        requires { (family_of_kind kind ≡ Some family) × (length fields.now ≡ field_count kind) }
-        ensures { Spells (layout result) kind fields.now }
-    {
-        match family {
-            Family::Directory => Command::Directory(Directory::from_fields(kind, fields)),
-            Family::Consent => Command::Consent(Consent::from_fields(kind, fields)),
-            Family::Session => Command::Session(Session::from_fields(kind, fields)),
-            Family::Question => Command::Question(Question::from_fields(kind, fields)),
-        }
-    }
-
     // The command of this kind with these fields, in their order; none where no command has both.
     pub fn from_fields(kind: u16, fields: &[u16]) -> Option<Command>
         ensures found { IfSome result (λ c. layout c ≡ laid kind fields.now) }
         ensures only { (c : AnyCommand) → layout c ≡ laid kind fields.now → result ≡ Some c }
         ensures test { is_some result ≡ (known kind && length fields.now == field_count kind) }
     {
-        let family = Family::of(kind)?;
-        if field_count(kind) != Some(fields.len()) {
-            return None;
+        match (kind, fields) {
+            (1, &[user]) => Some(Command::Directory(Directory::AddUser { user })),
+            (2, &[user]) => Some(Command::Directory(Directory::DeleteUser { user })),
+            (3, &[role]) => Some(Command::Directory(Directory::AddRole { role })),
+            (4, &[role]) => Some(Command::Directory(Directory::DeleteRole { role })),
+            (5, &[user, role]) => Some(Command::Directory(Directory::Assign { user, role })),
+            (6, &[user, role]) => Some(Command::Directory(Directory::Deassign { user, role })),
+            (7, &[ascendant, descendant]) => Some(Command::Directory(Directory::AddInheritance {
+                ascendant,
+                descendant,
+            })),
+            (8, &[ascendant, descendant]) => Some(Command::Directory(
+                Directory::DeleteInheritance {
+                    ascendant,
+                    descendant,
+                },
+            )),
+            (9, &[object]) => Some(Command::Directory(Directory::AddPlainObject { object })),
+            (10, &[object, owner, types]) => Some(Command::Directory(
+                Directory::AddPersonalObject {
+                    object,
+                    owner,
+                    types,
+                },
+            )),
+            (11, &[object]) => Some(Command::Directory(Directory::DeleteObject { object })),
+            (12, &[operation, object, role]) => Some(Command::Directory(Directory::GrantPlain {
+                operation,
+                object,
+                role,
+            })),
+            (13, &[operation, object, role]) => Some(Command::Directory(Directory::RevokePlain {
+                operation,
+                object,
+                role,
+            })),
+            (14, &[operation, object, purpose, role]) => Some(Command::Directory(
+                Directory::GrantPrivate {
+                    operation,
+                    object,
+                    purpose,
+                    role,
+                },
+            )),
+            (15, &[operation, object, purpose, role]) => Some(Command::Directory(
+                Directory::RevokePrivate {
+                    operation,
+                    object,
+                    purpose,
+                    role,
+                },
+            )),
+            (16, &[owner]) => Some(Command::Directory(Directory::AddOwner { owner })),
+            (17, &[owner]) => Some(Command::Directory(Directory::DeleteOwner { owner })),
+            (18, &[purpose, data_type]) => Some(Command::Consent(Consent::Offer {
+                purpose,
+                data_type,
+            })),
+            (19, &[purpose, data_type]) => Some(Command::Consent(Consent::Retract {
+                purpose,
+                data_type,
+            })),
+            (20, &[owner, purpose, data_type]) => Some(Command::Consent(Consent::Give {
+                owner,
+                purpose,
+                data_type,
+            })),
+            (21, &[owner, purpose, data_type]) => Some(Command::Consent(Consent::Withdraw {
+                owner,
+                purpose,
+                data_type,
+            })),
+            (22, &[session, user]) => Some(Command::Session(Session::Open { session, user })),
+            (23, &[session]) => Some(Command::Session(Session::End { session })),
+            (24, &[session, role]) => Some(Command::Session(Session::ActivateRole {
+                session,
+                role,
+            })),
+            (25, &[session, role]) => Some(Command::Session(Session::DropRole { session, role })),
+            (26, &[session, operation, object]) => Some(Command::Session(Session::AccessPlain {
+                session,
+                operation,
+                object,
+            })),
+            (27, &[session, operation, object, purpose]) => Some(Command::Session(Session::Use {
+                session,
+                operation,
+                object,
+                purpose,
+            })),
+            (28, &[session, operation, object, purpose]) => Some(Command::Session(Session::Look {
+                session,
+                operation,
+                object,
+                purpose,
+            })),
+            (29, &[user, role]) => Some(Command::Question(Question::Authorised { user, role })),
+            (30, &[owner, purpose, data_type]) => Some(Command::Question(Question::Consented {
+                owner,
+                purpose,
+                data_type,
+            })),
+            _ => None,
         }
-        Some(Command::of(family, kind, fields))
     }
 
     // The family that the command belongs to, which is that of its kind.

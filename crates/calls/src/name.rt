@@ -1,89 +1,46 @@
 // The name by which a command is shown to a person.
 ghost use Rattle.std.specs.Prelude.{◌≡◌, ◌≤◌, length};
-ghost use Rattle.calls.specs.Name.{command_name, directory_name, consent_name, session_name, question_name};
+ghost use Rattle.calls.specs.Name.{command_name};
 
 use crate::command::{Command, Consent, Directory, Question, Session};
 
-impl Directory {
-    fn name(self) -> &'static str
-        ensures value { result.now ≡ directory_name self }
-        ensures short { length result.now ≤ 20 }
-    {
-        match self {
-            Directory::AddUser { .. } => "add user",
-            Directory::DeleteUser { .. } => "delete user",
-            Directory::AddRole { .. } => "add role",
-            Directory::DeleteRole { .. } => "delete role",
-            Directory::Assign { .. } => "assign",
-            Directory::Deassign { .. } => "deassign",
-            Directory::AddInheritance { .. } => "add inheritance",
-            Directory::DeleteInheritance { .. } => "delete inheritance",
-            Directory::AddPlainObject { .. } => "add plain object",
-            Directory::AddPersonalObject { .. } => "add personal object",
-            Directory::DeleteObject { .. } => "delete object",
-            Directory::GrantPlain { .. } => "grant",
-            Directory::RevokePlain { .. } => "revoke",
-            Directory::GrantPrivate { .. } => "grant private",
-            Directory::RevokePrivate { .. } => "revoke private",
-            Directory::AddOwner { .. } => "add owner",
-            Directory::DeleteOwner { .. } => "delete owner",
-        }
-    }
-}
-
-impl Consent {
-    fn name(self) -> &'static str
-        ensures value { result.now ≡ consent_name self }
-        ensures short { length result.now ≤ 20 }
-    {
-        match self {
-            Consent::Offer { .. } => "offer",
-            Consent::Retract { .. } => "retract",
-            Consent::Give { .. } => "give",
-            Consent::Withdraw { .. } => "withdraw",
-        }
-    }
-}
-
-impl Session {
-    fn name(self) -> &'static str
-        ensures value { result.now ≡ session_name self }
-        ensures short { length result.now ≤ 20 }
-    {
-        match self {
-            Session::Open { .. } => "open session",
-            Session::End { .. } => "end session",
-            Session::ActivateRole { .. } => "activate role",
-            Session::DropRole { .. } => "drop role",
-            Session::AccessPlain { .. } => "plain access",
-            Session::Use { .. } => "use",
-            Session::Look { .. } => "look",
-        }
-    }
-}
-
-impl Question {
-    fn name(self) -> &'static str
-        ensures value { result.now ≡ question_name self }
-        ensures short { length result.now ≤ 20 }
-    {
-        match self {
-            Question::Authorised { .. } => "authorised",
-            Question::Consented { .. } => "consent",
-        }
-    }
-}
-
 impl Command {
+    // A text and no `Display`, since what a formatter promises holds only where it succeeds, and a line cannot fail.
     pub fn name(self) -> &'static str
         ensures value { result.now ≡ command_name self }
         ensures short { length result.now ≤ 20 }
     {
         match self {
-            Command::Directory(command) => command.name(),
-            Command::Consent(command) => command.name(),
-            Command::Session(command) => command.name(),
-            Command::Question(command) => command.name(),
+            Command::Directory(Directory::AddUser { .. }) => "add user",
+            Command::Directory(Directory::DeleteUser { .. }) => "delete user",
+            Command::Directory(Directory::AddRole { .. }) => "add role",
+            Command::Directory(Directory::DeleteRole { .. }) => "delete role",
+            Command::Directory(Directory::Assign { .. }) => "assign",
+            Command::Directory(Directory::Deassign { .. }) => "deassign",
+            Command::Directory(Directory::AddInheritance { .. }) => "add inheritance",
+            Command::Directory(Directory::DeleteInheritance { .. }) => "delete inheritance",
+            Command::Directory(Directory::AddPlainObject { .. }) => "add plain object",
+            Command::Directory(Directory::AddPersonalObject { .. }) => "add personal object",
+            Command::Directory(Directory::DeleteObject { .. }) => "delete object",
+            Command::Directory(Directory::GrantPlain { .. }) => "grant",
+            Command::Directory(Directory::RevokePlain { .. }) => "revoke",
+            Command::Directory(Directory::GrantPrivate { .. }) => "grant private",
+            Command::Directory(Directory::RevokePrivate { .. }) => "revoke private",
+            Command::Directory(Directory::AddOwner { .. }) => "add owner",
+            Command::Directory(Directory::DeleteOwner { .. }) => "delete owner",
+            Command::Consent(Consent::Offer { .. }) => "offer",
+            Command::Consent(Consent::Retract { .. }) => "retract",
+            Command::Consent(Consent::Give { .. }) => "give",
+            Command::Consent(Consent::Withdraw { .. }) => "withdraw",
+            Command::Session(Session::Open { .. }) => "open session",
+            Command::Session(Session::End { .. }) => "end session",
+            Command::Session(Session::ActivateRole { .. }) => "activate role",
+            Command::Session(Session::DropRole { .. }) => "drop role",
+            Command::Session(Session::AccessPlain { .. }) => "plain access",
+            Command::Session(Session::Use { .. }) => "use",
+            Command::Session(Session::Look { .. }) => "look",
+            Command::Question(Question::Authorised { .. }) => "authorised",
+            Command::Question(Question::Consented { .. }) => "consent",
         }
     }
 }

@@ -1,8 +1,9 @@
 -- An answer changes its own entry's answer and nothing else.
-use Rattle.std.proofs.Common.{◌≡◌, ℕ, ◌+◌, ◌-◌, ◌*◌, ◌/◌, ◌%◌, cond, not, eqb, ltb, leb, List, ◌∷◌, ◌++◌, length, take, drop, set, sym, ap, ◌∙◌, append_assoc, arith, length-append, length-set}
-use Rattle.std.proofs.lemmas.List.{drop_at, drop-drop, set-append_right}
+use Rattle.std.proofs.Common.{◌≡◌, ℕ, ◌+◌, ◌-◌, ◌*◌, ◌/◌, ◌%◌, cond, not, eqb, ltb, leb, List, ◌∷◌, ◌++◌, length, take, drop, set, ap, ◌∙◌, arith, length-set}
+use Rattle.std.proofs.lemmas.List.{drop-drop, set-append_right}
+use Rattle.std.proofs.lemmas.Grind.{common_steps}
 use Rattle.calls.specs.Layout.{known, field_count}
-use Rattle.book.specs.Format.{word, answered}
+use Rattle.book.specs.Format.{answered}
 use Rattle.book.specs.Reading.{Found, ends, faulty, found, reading}
 use Rattle.book.specs.Tiling.{Entry, entry_bytes, book_bytes, Tiles, AnswersAlone}
 use Rattle.book.proofs.Words.{word_drop}
@@ -22,10 +23,7 @@ reading_by n at size kind rest =
 
 -- what stands at a place depends only on the book's length and on the bytes from there on
 pub reading_from : (bs cs : List ℕ) (at : ℕ) → length cs ≡ length bs → drop at cs ≡ drop at bs → reading cs at ≡ reading bs at
-reading_from bs cs at long same =
-    let later : (n : ℕ) → drop (at + n) cs ≡ drop (at + n) bs = λ n. sym (drop-drop n at cs) ∙ ap (drop n) same ∙ drop-drop n at bs in
-    let word_same : (n : ℕ) → drop n cs ≡ drop n bs → word cs n ≡ word bs n = λ n e. sym (word_drop n cs) ∙ ap (λ l. word l 0) e ∙ word_drop n bs in
-    λ i. reading_by (long i) at (word_same at same i) (word_same (at + 2) (later 2) i) (later 6 i)
+reading_from bs cs at long same = grind (arith, common_steps, word_drop at bs, word_drop at cs, word_drop (at + 2) bs, word_drop (at + 2) cs, drop-drop 2 at bs, drop-drop 2 at cs, drop-drop 6 at bs, drop-drop 6 at cs)
 
 -- a word written into the answer field of the first entry behind these bytes
 answered_behind : (xs ys : List ℕ) (e : Entry) (at a : ℕ) → length xs ≡ at → answered (xs ++ (entry_bytes e ++ ys)) at a ≡ xs ++ (entry_bytes (record { command = e.command; answer = a }) ++ ys)
@@ -50,32 +48,21 @@ module _ (bs : List ℕ) (at a : ℕ) where
 
     split : (f : Entry) → book_bytes (before ++ f ∷ after) ++ drop to bs ≡ book_with f
     unfolding book_with
-    split f =
-        ap (λ l. l ++ drop to bs) (book_bytes_append before (f ∷ after))
-        ∙ append_assoc (book_bytes before) (entry_bytes f ++ book_bytes after) (drop to bs)
-        ∙ ap (λ l. book_bytes before ++ l) (append_assoc (entry_bytes f) (book_bytes after) (drop to bs))
+    split f = grind (arith, common_steps, book_bytes_append before (f ∷ after))
 
     answered_is : answered bs at a ≡ book_bytes (before ++ new ∷ after) ++ drop to bs
     unfolding book_with new
-    answered_is =
-        ap (λ l. answered l at a) (t.bytes ∙ split e)
-        ∙ answered_behind (book_bytes before) (book_bytes after ++ drop to bs) e at a here
-        ∙ sym (split new)
+    answered_is = grind (arith, common_steps, t.bytes, split e, split new, answered_behind (book_bytes before) (book_bytes after ++ drop to bs) e at a here)
 
     long_new : length (book_bytes (before ++ new ∷ after)) ≡ to
     unfolding new
-    long_new =
-        ap length (book_bytes_append before (new ∷ after))
-        ∙ length-append (book_bytes before) (book_bytes (new ∷ after))
-        ∙ sym (length-append (book_bytes before) (book_bytes (e ∷ after)))
-        ∙ sym (ap length (book_bytes_append before (e ∷ after)))
-        ∙ omega (arith, t.long)
+    long_new = grind (arith, common_steps, book_bytes_append before (new ∷ after), book_bytes_append before (e ∷ after), t.long)
 
     rest_same : drop to (answered bs at a) ≡ drop to bs
-    rest_same = ap (drop to) answered_is ∙ drop_at (book_bytes (before ++ new ∷ after)) (drop to bs) to long_new
+    rest_same = grind (arith, common_steps, answered_is, long_new)
 
     tiles_new : Tiles (answered bs at a) 0 (before ++ new ∷ after) to
-    tiles_new = record { bytes = answered_is ∙ ap (λ l. book_bytes (before ++ new ∷ after) ++ l) (sym rest_same); long = omega (arith, long_new) }
+    tiles_new = grind (arith, common_steps, answered_is, rest_same, long_new)
 
   pub answers_alone : AnswersAlone bs (answered bs at a) at a
   unfolding new

@@ -1,6 +1,7 @@
 -- A reader finds exactly the records that stand in the book.
-use Rattle.std.proofs.Common.{◌≡◌, ℕ, suc, ◌+◌, ◌-◌, ◌*◌, ◌<◌, ◌≤◌, List, ◌∷◌, length, get_or, take, drop, sym, refl, ap, ◌∙◌, add-zero, add_assoc, arith}
-use Rattle.std.proofs.lemmas.List.{get_or-take, get_or-drop, drop-take, drop-drop, length-take, length-drop}
+use Rattle.std.proofs.Common.{◌≡◌, ℕ, suc, ◌+◌, ◌-◌, ◌*◌, ◌<◌, ◌≤◌, List, ◌∷◌, length, get_or, take, drop, sym, refl, ap, ◌∙◌, arith}
+use Rattle.std.proofs.lemmas.List.{get_or-take, get_or-drop, drop-take, drop-drop}
+use Rattle.std.proofs.lemmas.Grind.{common_steps}
 use Rattle.calls.specs.Layout.{known, field_count}
 use Rattle.book.specs.Format.{word, word_bytes, record_bytes}
 use Rattle.book.specs.Reading.{Found, found, fields_at, reading}
@@ -24,9 +25,7 @@ module _ {bs : List ℕ} {at kind answer : ℕ} {fields : List ℕ} (s : Stands 
   is_kind = (λ i. byte (at + 2) 2 refl (omega arith) i + 256 * byte (at + 2 + 1) 3 (omega arith) (omega arith) i) ∙ word_back kind
 
   fits : at + (6 + 2 * length fields) ≤ length bs
-  fits =
-      let all : length (take (6 + 2 * length fields) (drop at bs)) ≡ 6 + 2 * length fields = ap length s.bytes ∙ omega (arith, length_word_bytes fields) in
-      omega (arith, simp (length-take, length-drop) at all)
+  fits = grind (arith, common_steps, s.bytes, length_word_bytes fields)
 
   is_fields : fields_at bs at ≡ word_bytes fields
   is_fields =
@@ -60,11 +59,11 @@ module _ {bs : List ℕ} {at kind : ℕ} {bytes : List ℕ} (small : Bytes bs) (
 
   part_long : length part ≡ 6 + 2 * field_count kind
   unfolding part
-  part_long = simp (length-take, length-drop) (omega (arith, counted, f.passes.fits))
+  part_long = grind (arith, common_steps, counted, f.passes.fits)
 
   part_at : (i : ℕ) → i < 6 → get_or part i 0 ≡ get_or bs (at + i) 0
   unfolding part
-  part_at i h = let lt : i < 6 + 2 * field_count kind = omega arith in get_or-take _ (drop at bs) i 0 lt ∙ get_or-drop at bs i 0
+  part_at i h = grind (arith, common_steps)
 
   part_bytes : Bytes part
   unfolding part
@@ -72,17 +71,10 @@ module _ {bs : List ℕ} {at kind : ℕ} {bytes : List ℕ} (small : Bytes bs) (
 
   -- the first two words of the part
   first : word part 0 ≡ 6 + 2 * field_count kind
-  first =
-      (λ i. part_at 0 (omega arith) i + 256 * part_at 1 (omega arith) i)
-      ∙ ap (λ j. get_or bs j 0 + 256 * get_or bs (at + 1) 0) (add-zero at)
-      ∙ counted
+  first = grind (arith, common_steps, part_at 0, part_at 1, counted)
 
   second : word (drop 2 part) 0 ≡ kind
-  second =
-      (λ i. get_or-drop 2 part 0 0 i + 256 * get_or-drop 2 part 1 0 i)
-      ∙ (λ i. part_at 2 (omega arith) i + 256 * part_at 3 (omega arith) i)
-      ∙ ap (λ j. get_or bs (at + 2) 0 + 256 * get_or bs j 0) (sym (add_assoc at 2 1))
-      ∙ f.kind
+  second = grind (arith, common_steps, part_at 2, part_at 3, f.kind)
 
   pub found_stands : (answer : ℕ) × (fields : List ℕ) × Stands bs at kind answer fields × (bytes ≡ word_bytes fields)
   unfolding part

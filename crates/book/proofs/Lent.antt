@@ -1,7 +1,8 @@
 -- An answer written into a part that is lent is written into the whole book.
-use Rattle.std.proofs.Common.{◌≡◌, ℕ, ◌+◌, ◌-◌, ◌/◌, ◌%◌, ◌<◌, ◌≤◌, List, ◌++◌, length, take, drop, set, sym, ap, ◌∙◌, arith, length-set, take-append-drop}
+use Rattle.std.proofs.Common.{◌≡◌, ℕ, ◌+◌, ◌-◌, ◌<◌, ◌≤◌, List, ◌++◌, length, take, drop, set, sym, ap, ◌∙◌, arith}
 use borrow.Rule.Slice.PartMut.{put_mid, post_of}
-use Rattle.std.proofs.lemmas.List.{set-append_right, set-append_left, length-take-le, length-take, length-drop}
+use Rattle.std.proofs.lemmas.List.{set-append_right, set-append_left, length-take-le}
+use Rattle.std.proofs.lemmas.Grind.{common_steps}
 use Rattle.book.specs.Format.{answered}
 
 module _ (a k : ℕ) (xs : List ℕ) (inside : a + k ≤ length xs) where
@@ -14,11 +15,7 @@ module _ (a k : ℕ) (xs : List ℕ) (inside : a + k ≤ length xs) where
       ∙ ap (λ l. take a xs ++ l) (set-append_left ys (post_of a k xs) i v lt))
 
   put_same : put_mid a k xs (take k (drop a xs)) ≡ xs
-  put_same = ap (λ l. take a xs ++ l) (take-append-drop k (drop a xs)) ∙ take-append-drop a xs
+  put_same = grind (arith, common_steps)
 
   pub answered_part : (v : ℕ) → 6 ≤ k → put_mid a k xs (answered (take k (drop a xs)) 0 v) ≡ answered xs a v
-  answered_part v six =
-      let part = take k (drop a xs) in
-      let long : 6 ≤ length part = simp (length-take, length-drop) (omega arith) in
-      put_set (set part 4 (v % 256)) 5 (v / 256) (simp length-set (omega arith))
-      ∙ ap (λ l. set l (a + 5) (v / 256)) (put_set part 4 (v % 256) (omega arith) ∙ ap (λ l. set l (a + 4) (v % 256)) put_same)
+  answered_part v six = grind (arith, common_steps, put_same, put_set)

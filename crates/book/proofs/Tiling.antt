@@ -1,8 +1,9 @@
 -- Entries that tile a book: one more at the end, the first one taken off, and that there is one way only.
-use Rattle.std.proofs.Common.{◌≡◌, ℕ, ◌+◌, ◌*◌, ◌/◌, ◌%◌, ◌≤◌, true, false, eqb, List, [], ◌∷◌, ◌++◌, length, get_or, take, drop, sym, refl, ap, ◌∙◌, subst, ⊎_elim, append_assoc, append-nil, arith, length-append, take-append-drop}
-use Rattle.std.proofs.lemmas.List.{take_at, drop_at, drop-drop}
-use Rattle.std.proofs.lemmas.Bool.{and_parts, eqb-true, both_ways, cases_lt}
-use Rattle.calls.specs.Layout.{layout, laid, known, field_count, family_of}
+use Rattle.std.proofs.Common.{◌≡◌, ℕ, ◌+◌, ◌*◌, ◌/◌, ◌%◌, ◌≤◌, true, false, List, [], ◌∷◌, ◌++◌, length, get_or, take, drop, sym, refl, ap, ◌∙◌, subst, ⊎_elim, append_assoc, append-nil, arith, length-append, take-append-drop}
+use Rattle.std.proofs.lemmas.List.{drop-drop}
+use Rattle.std.proofs.lemmas.Bool.{both_ways, cases_lt}
+use Rattle.std.proofs.lemmas.Grind.{common_steps}
+use Rattle.calls.specs.Layout.{layout, laid, family_of}
 use Rattle.calls.proofs.Told.{layout_counts, same_command}
 use Rattle.book.specs.Format.{word_bytes}
 use Rattle.book.specs.Reading.{found, reading, is_record}
@@ -29,10 +30,7 @@ abbrev pub Entered : List ℕ → ℕ → Entry → Type 0
 Entered bs at e = take (size_of e) (drop at bs) ≡ entry_bytes e
 
 entered_stands : (bs : List ℕ) (at : ℕ) (e : Entry) → Entered bs at e → Stands bs at (layout e.command).kind e.answer (layout e.command).fields
-entered_stands bs at e is =
-    let l = layout e.command in
-    let parts = and_parts (known l.kind) (eqb (length l.fields) (field_count l.kind)) (layout_counts e.command) in
-    record { kind_known = parts.0; counted = eqb-true _ _ parts.1; bytes = is }
+entered_stands bs at e is = grind (arith, common_steps, layout_counts e.command, is)
 
 module _ (bs : List ℕ) where
   -- one entry more at the end
@@ -57,14 +55,10 @@ module _ (bs : List ℕ) where
     rest_is = t.bytes ∙ append_assoc (entry_bytes e) (book_bytes es) (drop to bs)
 
     pub first_entered : Entered bs from e
-    first_entered = ap (take (size_of e)) rest_is ∙ take_at (entry_bytes e) _ (size_of e) (length_entry_bytes e)
+    first_entered = grind (arith, common_steps, rest_is, length_entry_bytes e)
 
     pub others_tile : Tiles bs (from + size_of e) es to
-    others_tile =
-        record {
-          bytes = sym (drop-drop (size_of e) from bs) ∙ ap (drop (size_of e)) rest_is ∙ drop_at (entry_bytes e) _ (size_of e) (length_entry_bytes e);
-          long = omega (arith, t.long, length-append (entry_bytes e) (book_bytes es), length_entry_bytes e);
-        }
+    others_tile = grind (arith, common_steps, rest_is, t.long, length_entry_bytes e, drop-drop (size_of e) from bs)
 
   -- two entries that stand at one place are the same
   same_entry : (at : ℕ) (e f : Entry) → length bs ≤ 65536 → Entered bs at e → Entered bs at f → e ≡ f
@@ -87,7 +81,7 @@ module _ (bs : List ℕ) where
 
   -- where entries begin a record stands
   entered_record : (at : ℕ) (e : Entry) → length bs ≤ 65536 → Entered bs at e → is_record (reading bs at) ≡ true
-  entered_record at e small is = ap is_record (stands_found (entered_stands bs at e is) small)
+  entered_record at e small is = grind (arith, stands_found (entered_stands bs at e is) small)
 
   -- two lists of entries that tile the book up to places where no record stands are the same
   pub tiles_only : (at : ℕ) (es fs : List Entry) (to end : ℕ) → length bs ≤ 65536 → Tiles bs at es to → is_record (reading bs to) ≡ false → Tiles bs at fs end → is_record (reading bs end) ≡ false → (es ≡ fs) × (to ≡ end)
@@ -107,16 +101,13 @@ module _ (bs : List ℕ) where
 -- entries that take no bytes are none
 no_bytes : (es : List Entry) → length (book_bytes es) ≡ 0 → es ≡ []
 no_bytes [] e = refl
-no_bytes (e ∷ es) none = absurd (omega (arith, none, length-append (entry_bytes e) (book_bytes es), length_entry_bytes e))
+no_bytes (e ∷ es) none = grind (arith, common_steps, length_entry_bytes e)
 
 -- the entries up to where a book's reading stops, and that place, are told by the book
 pub stops_only : (bs : List ℕ) (es fs : List Entry) (to end : ℕ) → Tiles bs 0 es to → Stops bs to → Tiles bs 0 fs end → Stops bs end → (es ≡ fs) × (to ≡ end)
 stops_only bs es fs to end t stop u halt =
     ⊎_elim
-    (λ large.
-    let here : to ≡ 0 = stop.large large in
-    let there : end ≡ 0 = halt.large large in
-    (no_bytes es (omega (arith, t.long)) ∙ sym (no_bytes fs (omega (arith, u.long))), here ∙ sym there))
+    (λ large. grind (arith, common_steps, stop.large large, halt.large large, t.long, u.long, no_bytes es, no_bytes fs))
     (λ small. tiles_only bs 0 es fs to end small t stop.no_record u halt.no_record)
     (cases_lt 65536 (length bs))
 

@@ -1,8 +1,10 @@
 -- Words as bytes, and back.
-use Rattle.std.proofs.Common.{◌≡◌, ℕ, zero, suc, ◌+◌, ◌*◌, ◌/◌, ◌%◌, ◌<◌, ◌≤◌, List, [], ◌∷◌, ◌++◌, length, get_or, take, drop, sym, refl, ap, ◌∙◌, ⊎_elim, add-zero, arith}
+use Rattle.std.proofs.Common.{◌≡◌, ℕ, zero, suc, ◌+◌, ◌*◌, ◌/◌, ◌%◌, ◌<◌, ◌≤◌, List, [], ◌∷◌, length, map, get_or, take, drop, sym, refl, ap, ◌∙◌, arith}
 use native.Mathlib.Nat.{mod-add-div}
-use Rattle.std.proofs.lemmas.List.{drop-drop, get_or-drop, get_or-take, get_or_past, length-take}
-use Rattle.std.proofs.lemmas.Bool.{cases_lt}
+use Rattle.std.proofs.lemmas.List.{drop-drop}
+use Rattle.std.proofs.lemmas.List.FromFn.{fill_by_all, take-map-range_with_len}
+use Rattle.std.specs.List.{range_with_len}
+use Rattle.std.proofs.lemmas.Grind.{common_steps}
 use Rattle.book.specs.Format.{word, word_bytes}
 
 -- every entry is a byte
@@ -38,22 +40,23 @@ bytes_of_words (suc n) (a ∷ b ∷ bs) long small =
     λ i. low i ∷ high i ∷ rest i
 
 pub bytes_drop : (n : ℕ) (bs : List ℕ) → Bytes bs → Bytes (drop n bs)
-bytes_drop n bs small i = rw (get_or-drop n bs i 0) (small (n + i))
+bytes_drop n bs small i = grind (arith, common_steps, small)
 
 pub bytes_take : (n : ℕ) (bs : List ℕ) → Bytes bs → Bytes (take n bs)
-bytes_take n bs small i =
-    ⊎_elim
-    (λ lt. rw (get_or-take n bs i 0 lt) (small i))
-    (λ (le : n ≤ i). let past : length (take n bs) ≤ i = simp length-take (omega arith) in rw (get_or_past (take n bs) i 0 past) (omega arith))
-    (cases_lt i n)
+bytes_take n bs small i = grind (arith, common_steps, small)
 
 pub word_drop : (n : ℕ) (bs : List ℕ) → word (drop n bs) 0 ≡ word bs n
-word_drop n bs = (λ i. get_or-drop n bs 0 0 i + 256 * get_or-drop n bs 1 0 i) ∙ ap (λ j. get_or bs j 0 + 256 * get_or bs (n + 1) 0) (add-zero n)
+word_drop n bs = grind (arith, common_steps)
 
--- one word more
-pub words_more : (n : ℕ) (bs : List ℕ) → words_of (suc n) bs ≡ words_of n bs ++ word bs (2 * n) ∷ []
-words_more zero bs = refl
-words_more (suc n) bs =
-    ap (λ ws. word bs 0 ∷ ws)
-    (words_more n (drop 2 bs)
-    ∙ ap (λ w. words_of n (drop 2 bs) ++ w ∷ []) (sym (word_drop (2 * n) (drop 2 bs)) ∙ ap (λ l. word l 0) (drop-drop (2 * n) 2 bs) ∙ word_drop (2 + 2 * n) bs ∙ ap (word bs) (omega arith)))
+-- the words from the word a on
+words_from : (n a : ℕ) (bs : List ℕ) → words_of n (drop (2 * a) bs) ≡ map (λ i. word bs (2 * i)) (range_with_len a n)
+words_from zero a bs = refl
+words_from (suc n) a bs =
+    let next : drop 2 (drop (2 * a) bs) ≡ drop (2 * (a + 1)) bs = drop-drop 2 (2 * a) bs ∙ ap (λ m. drop m bs) (omega arith) in
+    λ i. word_drop (2 * a) bs i ∷ (ap (words_of n) next ∙ words_from n (a + 1) bs) i
+
+-- words read one by one are the first ones
+pub first_words : (n : ℕ) (bs ws : List ℕ) → n ≤ 4 → length ws ≡ 4 → ((i : ℕ) → i < 4 → get_or ws i 0 ≡ word bs (2 * i)) → take n ws ≡ words_of n bs
+first_words n bs ws few long each =
+    let at : ℕ → ℕ = λ i. word bs (2 * i) in
+    ap (take n) (fill_by_all at ws 4 0 long each) ∙ take-map-range_with_len at 0 4 n few ∙ sym (words_from n 0 bs)

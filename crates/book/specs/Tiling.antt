@@ -1,5 +1,5 @@
 -- A book is its commands one after another, each with its answer, and then whatever is left.
-use Rattle.std.specs.Prelude.{◌≡◌, ℕ, ◌+◌, ◌<◌, false, List, [], ◌∷◌, ◌++◌, length, drop}
+use Rattle.std.specs.Prelude.{◌≡◌, ℕ, ◌+◌, ◌<◌, false, List, [], ◌∷◌, ◌++◌, length, drop, Ok, Err, Result}
 use Rattle.calls.specs.Layout.{layout, family_of}
 use Rattle.calls.specs.declared.command.Command.{Command}
 use Rattle.calls.specs.declared.command.Family.{Family}
@@ -7,8 +7,7 @@ use Rattle.calls.specs.declared.command.Family.TheVariants as family
 use Rattle.book.specs.Format.{record_bytes}
 use Rattle.book.specs.Numbers.{fault_number}
 use Rattle.book.specs.Reading.{Found, ends, faulty, reading, is_record}
-use Rattle.book.specs.declared.types.Ending.{Ending}
-use Rattle.book.specs.declared.types.Ending.TheVariants.{End, Bad}
+use Rattle.book.specs.declared.types.Damage.{Damage}
 use Rattle.book.specs.declared.types.Survey.{Survey}
 use Rattle.book.specs.declared.types.Tally.{Tally}
 
@@ -43,14 +42,18 @@ tallied t (e ∷ es) = tallied (counted (family_of e.command) t) es
 abbrev pub none_yet : Tally
 none_yet = record { directory = 0; consent = 0; session = 0; question = 0 }
 
+-- a book was read to its end, which is its length, or to its damage
+abbrev pub Ending : Type 0
+Ending = Result ℕ Damage
+
 -- where the reading of a book stops, and what stands there
 abbrev pub stop_place : Ending → ℕ
-stop_place (End n) = n
-stop_place (Bad p f) = p
+stop_place (Ok n) = n
+stop_place (Err d) = d.place
 
 abbrev pub stop_found : Ending → Found
-stop_found (End n) = ends
-stop_found (Bad p f) = faulty (fault_number f)
+stop_found (Ok n) = ends
+stop_found (Err d) = faulty (fault_number d.fault)
 
 -- the reading of the book bs stops at the byte to: no record stands there, and of a book that is too large nothing
 -- was read

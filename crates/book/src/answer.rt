@@ -6,18 +6,13 @@ ghost use Rattle.book.specs.Reading.{reading, is_record};
 ghost use Rattle.book.specs.Tiling.{AnswersAlone};
 
 use crate::reader::read;
-use crate::types::{Fault, Layer, Outcome, Reading};
+use crate::types::{Fault, Layer, Outcome, Refusal};
 
 impl Fault {
     pub fn number(self) -> u8
         ensures { result ≡ fault_number self }
     {
-        match self {
-            Fault::TooLarge => 20,
-            Fault::BadLength => 21,
-            Fault::UnknownKind => 22,
-            Fault::WrongFieldCount => 23,
-        }
+        self as u8
     }
 }
 
@@ -25,22 +20,17 @@ impl Layer {
     pub fn number(self) -> u8
         ensures { result ≡ layer_number self }
     {
-        match self {
-            Layer::Register => 1,
-            Layer::Kernel => 2,
-        }
+        self as u8
     }
 }
 
-impl Outcome {
-    // The word of the answer field.
-    pub fn word(self) -> u16
-        ensures { result ≡ answer_word self }
-    {
-        match self {
-            Outcome::Accepted => 0,
-            Outcome::Refused { layer, number } => number as u16 + 256 * layer.number() as u16,
-        }
+// The word of the answer field.
+pub fn word(outcome: Outcome) -> u16
+    ensures { result ≡ answer_word outcome }
+{
+    match outcome {
+        Ok(()) => 0,
+        Err(Refusal { layer, number }) => number as u16 + 256 * layer.number() as u16,
     }
 }
 
@@ -49,8 +39,9 @@ fn put_answer(part: &mut [u8], answer: u16)
     requires { 6 ≤ length part.old }
     ensures { part.new ≡ answered part.old 0 answer }
 {
-    part[4] = (answer % 256) as u8;
-    part[5] = (answer / 256) as u8;
+    let [low, high] = answer.to_le_bytes();
+    part[4] = low;
+    part[5] = high;
 }
 
 // Answers the record at this place. False, and no byte changed, where no record stands there.
@@ -59,11 +50,10 @@ pub fn answer_at(book: &mut [u8], at: usize, outcome: Outcome) -> bool
     ensures after { book.new ≡ (if is_record (reading book.old at) then answered book.old at (answer_word outcome) else book.old) }
     ensures alone { T result → AnswersAlone book.old book.new at (answer_word outcome) }
 {
-    let size = match read(book, at) {
-        Reading::Record(record) => record.size(),
-        Reading::End => return false,
-        Reading::Bad(_) => return false,
+    let Ok(Some(record)) = read(book, at) else {
+        return false;
     };
-    put_answer(&mut book[at..at + size], outcome.word());
+    let size = record.size();
+    put_answer(&mut book[at..at + size], word(outcome));
     true
 }

@@ -3,9 +3,9 @@ ghost use Rattle.std.specs.Prelude.{◌≡◌, ℕ, ◌+◌, ◌≤◌, length};
 ghost use Rattle.book.specs.Format.{word};
 ghost use Rattle.book.specs.Reading.{reading};
 ghost use Rattle.book.specs.Framing.{Framed};
-ghost use Rattle.book.specs.Handed.{seen, Files, place_of, kind_of, bytes_of, family_of};
+ghost use Rattle.book.specs.Handed.{seen, Files, frame_of, family_of};
 
-use crate::types::{Fault, Reading, Record};
+use crate::types::{Fault, Frame, Reading, Record};
 use calls::command::Family;
 use calls::layout::fields_of;
 
@@ -15,41 +15,27 @@ pub const MAX_LEN: usize = 65_536;
 // The length, the kind and the answer come before the fields.
 pub const HEADER: usize = 6;
 
-pub(crate) fn word_at(bytes: &[u8], at: usize) -> u16
-    requires { at + 2 ≤ length bytes.now }
+// The word whose low byte is at a place, with 0 for each byte that is not there.
+pub fn word_at(bytes: &[u8], at: usize) -> u16
     ensures { result ≡ word bytes.now at }
 {
-    u16::from_le_bytes([bytes[at], bytes[at + 1]])
+    match bytes.get(at..) {
+        Some([low, high, ..]) => u16::from_le_bytes([*low, *high]),
+        Some([low]) => *low as u16,
+        _ => 0,
+    }
 }
 
 impl<'a> Record<'a> {
-    fn of(family: Family, place: usize, kind: u16, fields: &'a [u8]) -> Record<'a>
+    fn of(family: Family, frame: Frame<'a>) -> Record<'a>
         ensures family { family_of result ≡ family }
-        ensures place { place_of result ≡ place }
-        ensures kind { kind_of result ≡ kind }
-        ensures bytes { bytes_of result ≡ fields.now }
+        ensures frame { frame_of result ≡ frame.entry }
     {
         match family {
-            Family::Directory => Record::Directory {
-                place,
-                kind,
-                fields,
-            },
-            Family::Consent => Record::Consent {
-                place,
-                kind,
-                fields,
-            },
-            Family::Session => Record::Session {
-                place,
-                kind,
-                fields,
-            },
-            Family::Question => Record::Question {
-                place,
-                kind,
-                fields,
-            },
+            Family::Directory => Record::Directory(frame),
+            Family::Consent => Record::Consent(frame),
+            Family::Session => Record::Session(frame),
+            Family::Question => Record::Question(frame),
         }
     }
 }
@@ -60,30 +46,33 @@ fn ask(book: &[u8], at: usize) -> Reading<'_>
     ensures filed { Files book.now at result }
 {
     if book.len() > MAX_LEN {
-        return Reading::Bad(Fault::TooLarge);
+        return Err(Fault::TooLarge);
     }
     if at >= book.len() {
-        return Reading::End;
+        return Ok(None);
     }
     let left = book.len() - at;
     if left < HEADER {
-        return Reading::Bad(Fault::BadLength);
+        return Err(Fault::BadLength);
     }
     let size = word_at(book, at) as usize;
     if size < HEADER {
-        return Reading::Bad(Fault::BadLength);
+        return Err(Fault::BadLength);
     }
     if left < size {
-        return Reading::Bad(Fault::BadLength);
+        return Err(Fault::BadLength);
     }
     let kind = word_at(book, at + 2);
-    let Some(family) = Family::of(kind) else {
-        return Reading::Bad(Fault::UnknownKind);
-    };
+    let family = Family::of(kind).ok_or(Fault::UnknownKind)?;
     if size != HEADER + 2 * fields_of(kind) {
-        return Reading::Bad(Fault::WrongFieldCount);
+        return Err(Fault::WrongFieldCount);
     }
-    Reading::Record(Record::of(family, at, kind, &book[at + HEADER..at + size]))
+    let frame = Frame {
+        place: at,
+        kind,
+        fields: &book[at + HEADER..at + size],
+    };
+    Ok(Some(Record::of(family, frame)))
 }
 
 // What stands at a place: any place of any book, also past its end.

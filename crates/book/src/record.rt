@@ -2,59 +2,51 @@
 ghost use Rattle.std.specs.Prelude.{◌≡◌, ℕ, ◌+◌, ◌*◌, ◌≤◌, cond, T, [], length, take, is_some, IfSome, Some};
 ghost use Rattle.calls.specs.declared.command.Command.{Command as AnyCommand};
 ghost use Rattle.book.specs.Format.{word_bytes};
-ghost use Rattle.book.specs.Handed.{place_of, kind_of, bytes_of, size_of};
+ghost use Rattle.book.specs.Handed.{frame_of, place_of, kind_of, bytes_of, size_of};
 ghost use Rattle.book.specs.Commanded.{Asks, is_whole, FewFields};
 
 use crate::reader::{HEADER, word_at};
-use crate::types::Record;
+use crate::types::{Frame, Record};
 use calls::command::Command;
 use calls::layout::{MAX_FIELDS, field_count, fields_of};
+use std::array;
 
-// The words that these bytes make up, in an array with room for the fields of any command.
-fn words_of(count: usize, bytes: &[u8]) -> [u16; MAX_FIELDS]
-    requires { (count ≤ 4) × (length bytes.now ≡ 2 * count) }
-    ensures { word_bytes (take count result) ≡ bytes.now }
+// The words that these bytes begin with, with 0 for each byte that is not there.
+fn words_of(bytes: &[u8]) -> [u16; MAX_FIELDS]
+    ensures { (n : ℕ) → n ≤ 4 → length bytes.now ≡ 2 * n → word_bytes (take n result) ≡ bytes.now }
 {
-    let mut words = [0; MAX_FIELDS];
-    for i in 0..count {
-        words[i] = word_at(bytes, 2 * i);
-    }
-    words
+    array::from_fn(|i| word_at(bytes, 2 * i))
 }
 
 impl<'a> Record<'a> {
+    fn frame(&self) -> Frame<'a>
+        ensures { result ≡ frame_of self.now }
+    {
+        match *self {
+            Record::Directory(frame) => frame,
+            Record::Consent(frame) => frame,
+            Record::Session(frame) => frame,
+            Record::Question(frame) => frame,
+        }
+    }
+
     pub fn place(&self) -> usize
         ensures { result ≡ place_of self.now }
     {
-        match *self {
-            Record::Directory { place, .. } => place,
-            Record::Consent { place, .. } => place,
-            Record::Session { place, .. } => place,
-            Record::Question { place, .. } => place,
-        }
+        self.frame().place
     }
 
     pub fn kind(&self) -> u16
         ensures { result ≡ kind_of self.now }
     {
-        match *self {
-            Record::Directory { kind, .. } => kind,
-            Record::Consent { kind, .. } => kind,
-            Record::Session { kind, .. } => kind,
-            Record::Question { kind, .. } => kind,
-        }
+        self.frame().kind
     }
 
     // The field bytes, a part of the book itself.
     pub fn fields(&self) -> &'a [u8]
         ensures { result.now ≡ bytes_of self.now }
     {
-        match *self {
-            Record::Directory { fields, .. } => fields,
-            Record::Consent { fields, .. } => fields,
-            Record::Session { fields, .. } => fields,
-            Record::Question { fields, .. } => fields,
-        }
+        self.frame().fields
     }
 
     // How many bytes the whole record takes.
@@ -68,10 +60,8 @@ impl<'a> Record<'a> {
         ensures value { result ≡ is_whole self.now }
         ensures few { T result → FewFields self.now }
     {
-        match field_count(self.kind()) {
-            Some(count) => self.fields().len() == 2 * count,
-            None => false,
-        }
+        let fields = self.fields();
+        field_count(self.kind()).is_some_and(|count| fields.len() == 2 * count)
     }
 
     // The command that the record asks for. Every record that was read has one; none where a caller put together a
@@ -85,8 +75,7 @@ impl<'a> Record<'a> {
             return None;
         }
         let fields = self.fields();
-        let count = fields.len() / 2;
-        let words = words_of(count, fields);
-        Command::from_fields(self.kind(), &words[0..count])
+        let words = words_of(fields);
+        Command::from_fields(self.kind(), &words[..fields.len() / 2])
     }
 }

@@ -1,23 +1,12 @@
 // Reading a whole book, record after record.
 ghost use Rattle.std.specs.Prelude.{◌≡◌, ℕ, ◌+◌, ◌^◌, ◌<◌};
-ghost use Rattle.book.specs.Tiling.{Surveyed, counted, none_yet};
+ghost use Rattle.book.specs.Tiling.{Surveyed, counted};
 
 use crate::reader::read;
-use crate::types::{Ending, Reading, Survey, Tally};
+use crate::types::{Damage, Survey, Tally};
 use calls::command::Family;
 
 impl Tally {
-    fn none() -> Tally
-        ensures { result ≡ none_yet }
-    {
-        Tally {
-            directory: 0,
-            consent: 0,
-            session: 0,
-            question: 0,
-        }
-    }
-
     fn count(&mut self, family: Family)
         requires { self.old.directory + self.old.consent + self.old.session + self.old.question + 1 < 2 ^ 64 }
         ensures { self.new ≡ counted family self.old }
@@ -35,22 +24,24 @@ impl Tally {
 pub fn survey(book: &[u8]) -> Survey
     ensures { Surveyed book.now result }
 {
-    let mut tally = Tally::none();
+    let mut tally = Tally::default();
+    // The place of the next record, which only the length of this one tells: no index is counted. An iterator over the
+    // records would have to hand out where and why it stopped as well.
     let mut at = 0;
-    loop {
-        let record = match read(book, at) {
-            Reading::Record(record) => record,
-            Reading::End => return Survey {
+    'records: loop {
+        match read(book, at) {
+            Ok(Some(record)) => {
+                tally.count(record.command().unwrap().family());
+                at += record.size();
+            }
+            Ok(None) => return Survey {
                 tally,
-                ending: Ending::End { length: at },
+                ending: Ok(at),
             },
-            Reading::Bad(fault) => return Survey {
+            Err(fault) => return Survey {
                 tally,
-                ending: Ending::Bad { place: at, fault },
+                ending: Err(Damage { place: at, fault }),
             },
-        };
-        let command = record.command().unwrap();
-        tally.count(command.family());
-        at += record.size();
+        }
     }
 }

@@ -3,66 +3,56 @@
 // A record as it lies in its book: the place of its first byte, the number of its kind, and its field bytes,
 // which are a part of the book itself.
 #[derive(Clone, Copy)]
-pub enum Record<'a> {
-    Directory {
-        place: usize,
-        kind: u16,
-        fields: &'a [u8],
-    },
-    Consent {
-        place: usize,
-        kind: u16,
-        fields: &'a [u8],
-    },
-    Session {
-        place: usize,
-        kind: u16,
-        fields: &'a [u8],
-    },
-    Question {
-        place: usize,
-        kind: u16,
-        fields: &'a [u8],
-    },
+pub struct Frame<'a> {
+    pub place: usize,
+    pub kind: u16,
+    pub fields: &'a [u8],
 }
 
-// What stands at a place of a book.
+// A record by the family of its kind, which its case says: what stands in the book is the same of each.
 #[derive(Clone, Copy)]
-pub enum Reading<'a> {
-    End,
-    Bad(Fault),
-    Record(Record<'a>),
+pub enum Record<'a> {
+    Directory(Frame<'a>),
+    Consent(Frame<'a>),
+    Session(Frame<'a>),
+    Question(Frame<'a>),
 }
 
-// Why a book cannot be read on.
+// What stands at a place of a book: a record, none where the book ends, or a fault.
+pub type Reading<'a> = Result<Option<Record<'a>>, Fault>;
+
+// Why a book cannot be read on, by its number.
 #[derive(Clone, Copy, PartialEq, Eq, Debug)]
 pub enum Fault {
     // the book has more than 65,536 bytes
-    TooLarge,
+    TooLarge = 20,
     // fewer than six bytes remain, or the length is under six or over what remains
-    BadLength,
+    BadLength = 21,
     // the kind is not one of 1 to 30
-    UnknownKind,
+    UnknownKind = 22,
     // the length is not that of a record of the kind
-    WrongFieldCount,
+    WrongFieldCount = 23,
 }
 
-// Which part of the kernel refused a command.
+// Which part of the kernel refused a command, by its number.
 #[derive(Clone, Copy, PartialEq, Eq, Debug)]
 pub enum Layer {
-    Register,
-    Kernel,
+    Register = 1,
+    Kernel = 2,
 }
 
-// What a record's answer field says.
+// Why a command was refused.
 #[derive(Clone, Copy, PartialEq, Eq, Debug)]
-pub enum Outcome {
-    Accepted,
-    Refused { layer: Layer, number: u8 },
+pub struct Refusal {
+    pub layer: Layer,
+    pub number: u8,
 }
+
+// What a record's answer field says: the command was accepted or refused.
+pub type Outcome = Result<(), Refusal>;
 
 // How many records of each family a book has.
-#[derive(Clone, Copy, PartialEq, Eq, Debug)]
+#[derive(Clone, Copy, Default, PartialEq, Eq, Debug)]
 pub struct Tally {
     pub directory: usize,
     pub consent: usize,
@@ -70,12 +60,15 @@ pub struct Tally {
     pub question: usize,
 }
 
-// Where the reading of a book stops: at its end, or at a fault.
+// Where a book cannot be read on, and why.
 #[derive(Clone, Copy, PartialEq, Eq, Debug)]
-pub enum Ending {
-    End { length: usize },
-    Bad { place: usize, fault: Fault },
+pub struct Damage {
+    pub place: usize,
+    pub fault: Fault,
 }
+
+// Where the reading of a book stops: at its end, which is its length, or at its damage.
+pub type Ending = Result<usize, Damage>;
 
 // What a reading of a whole book comes to.
 #[derive(Clone, Copy, PartialEq, Eq, Debug)]

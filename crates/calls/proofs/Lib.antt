@@ -1,3 +1,2 @@
 mod Few
-pub mod Known
 pub mod Told

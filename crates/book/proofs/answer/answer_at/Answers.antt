@@ -14,8 +14,8 @@ returns c =
     let bs = c.args.book.now in
     let at = c.args.at in
     let size = at + c.size-size.result - at in
-    let is = ap is_record c.in-Record.ensures.reads in
-    let filed = c.in-Record.ensures.filed in
+    let filed = rw c.in-Ok-Some.field-0-is at c.in-Ok-Some.ensures.filed in
+    let is = ap is_record (rw c.in-Ok-Some.field-0-is at c.in-Ok-Some.ensures.reads) in
     let inside : at + size ≤ length bs = omega (arith, c.size-size.ensures, filed.inside) in
     let after =
     ap (put_mid at size bs) c.put_answer.ensures

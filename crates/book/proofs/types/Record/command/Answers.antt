@@ -1,21 +1,16 @@
-use Rattle.std.proofs.Common.{take, sym, ap, ◌∙◌, arith}
+use Rattle.std.proofs.Common.{◌≡◌, ◌/◌, length, take, ◌∙◌}
 use Rattle.book.specs.Format.{word_bytes}
-use Rattle.book.proofs.Commanded.{none_asked, found_asks, only_asked, whole_found}
+use Rattle.book.specs.Handed.{bytes_of}
+use Rattle.book.proofs.Commanded.{only_asked}
 use Rattle.book.proofs.types.Record.command.Goals as goal
 
-pub returns-then-not-is_whole : goal.returns-then-not-is_whole
-returns-then-not-is_whole c =
-    let broken = c.if-not-is_whole.ensures.value in
-    record { found = tt; only = none_asked c.args.self.now (sym broken); test = broken }
-
-pub returns : goal.returns
-returns c =
+pub returns-clause-only : goal.returns-clause-only
+returns-clause-only c =
     let x = c.args.self.now in
-    let kind = c.kind.ensures in
-    let r = c.from_fields.ensures in
-    let fields = ap (λ n. word_bytes (take n c.words_of-words.result)) (omega arith) ∙ c.words_of-words.ensures ∙ c.fields-fields.ensures in
-    record {
-      found = found_asks x _ _ kind fields c.from_fields.result r.found;
-      only = only_asked x _ _ kind fields r.only;
-      test = whole_found x _ _ kind fields c.from_fields.result (sym c.if-not-is_whole.ensures.value) r.test;
-    }
+    let few = c.if-not-is_whole.ensures.few tt in
+    let bytes = c.fields-fields.ensures in
+    let n = length c.fields-fields.result.now / 2 in
+    let fields : word_bytes (take n c.words_of-words.result) ≡ bytes_of x =
+    c.words_of-words.ensures n (rw bytes few.four) (rw bytes few.words) ∙ bytes
+    in
+    only_asked x _ _ c.kind.ensures fields c.from_fields.ensures.only

@@ -1,11 +1,9 @@
 -- What is printed of a book: a line for each record, how many there are of each family, and where it ends.
-use Rattle.std.specs.Prelude.{◌≡◌, ℕ, ◌+◌, ◌*◌, cond, List, [], ◌∷◌, ◌++◌, length, drop, codes, decimal, nat_lt}
+use Rattle.std.specs.Prelude.{◌≡◌, ℕ, ◌+◌, ◌*◌, cond, List, [], ◌∷◌, ◌++◌, length, drop, codes, decimal, nat_lt, Ok, Err}
 use Rattle.calls.specs.Layout.{field_count}
 use Rattle.calls.specs.declared.command.Family.TheVariants as family
 use Rattle.book.specs.Format.{word}
-use Rattle.book.specs.Tiling.{Entry, entry_bytes, Tiles, Stops, Surveyed}
-use Rattle.book.specs.declared.types.Ending.{Ending}
-use Rattle.book.specs.declared.types.Ending.TheVariants.{End, Bad}
+use Rattle.book.specs.Tiling.{Entry, entry_bytes, Tiles, Stops, Surveyed, Ending}
 use Rattle.book.specs.declared.types.Fault.{Fault}
 use Rattle.book.specs.declared.types.Fault.TheVariants.{TooLarge, BadLength, UnknownKind, WrongFieldCount}
 use Rattle.book.specs.declared.types.Survey.{Survey}
@@ -43,8 +41,8 @@ sentence s WrongFieldCount =
 
 -- the last lines
 abbrev pub closing : List ℕ → Ending → List ℕ
-closing bs (End size) = end_line size
-closing bs (Bad place fault) = sentence (site_of (length bs) place (drop place bs)) fault ++ bad_line place fault
+closing bs (Ok size) = end_line size
+closing bs (Err d) = sentence (site_of (length bs) d.place (drop d.place bs)) d.fault ++ bad_line d.place d.fault
 
 -- the lines of the records of the book bs
 pub record Listed (bs out : List ℕ) : Type 0 where

@@ -1,16 +1,14 @@
 -- The lines that are printed, byte for byte: single spaces, decimal numbers, byte 10 at the end.
-use Rattle.std.specs.Prelude.{ℕ, List, [], ◌∷◌, ◌++◌, take, codes, decimal}
+use Rattle.std.specs.Prelude.{ℕ, List, [], ◌∷◌, ◌++◌, take, codes, decimal, Ok, Err}
 use Rattle.calls.specs.Layout.{layout}
 use Rattle.calls.specs.Name.{command_name}
 use Rattle.calls.specs.declared.command.Command.{Command}
 use Rattle.calls.specs.declared.command.Family.{Family}
 use Rattle.calls.specs.declared.command.Family.TheVariants as family
-use Rattle.book.specs.Numbers.{fault_number}
+use Rattle.book.specs.Numbers.{Outcome, fault_number}
 use Rattle.book.specs.declared.types.Fault.{Fault}
 use Rattle.book.specs.declared.types.Layer.{Layer}
 use Rattle.book.specs.declared.types.Layer.TheVariants.{Register, Kernel}
-use Rattle.book.specs.declared.types.Outcome.{Outcome}
-use Rattle.book.specs.declared.types.Outcome.TheVariants.{Accepted, Refused}
 use Rattle.lines.specs.declared.line.Line.{Line}
 
 -- what a line says
@@ -32,8 +30,8 @@ abbrev pub no_line : ℕ → ℕ → Layer → ℕ → List ℕ
 no_line place kind layer number = record_head place kind ++ codes "no" ++ codes " " ++ layer_name layer ++ codes " " ++ decimal number ++ codes "\n"
 
 abbrev pub answer_line : ℕ → ℕ → Outcome → List ℕ
-answer_line place kind Accepted = ok_line place kind
-answer_line place kind (Refused layer number) = no_line place kind layer number
+answer_line place kind (Ok u) = ok_line place kind
+answer_line place kind (Err r) = no_line place kind r.layer r.number
 
 abbrev pub end_line : ℕ → List ℕ
 end_line size = codes "end" ++ codes " " ++ decimal size ++ codes "\n"

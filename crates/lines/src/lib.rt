@@ -1,20 +1,21 @@
-// The output lines: one call makes each, and says exactly which bytes it holds.
+// The output lines: one call makes each, and says exactly which bytes it holds. The parts of a line, and the names in
+// it, are bytes that are put one after another and no `Display`: what `write!` promises holds only where it succeeds,
+// nothing says that it does, and a line cannot fail.
 #![tactic(auto)]
 
 ghost use Rattle.std.specs.Prelude.{◌≡◌, ℕ, ◌+◌, ◌≤◌, [], ◌++◌, length, decimal};
 ghost use Rattle.lines.specs.Lines.{text, layer_name, record_head, ok_line, no_line, answer_line, end_line, bad_line, command_line, family_name, count_line};
 
-use book::types::{Fault, Layer, Outcome};
+use book::types::{Damage, Layer, Outcome, Refusal};
 use calls::command::{Command, Family};
 
 pub mod line;
 
-use line::{Line, MAX_LINE};
+use line::{Head, Line, MAX_LINE};
 
 impl Line {
     fn empty() -> Line
-        ensures text { text result ≡ [] }
-        ensures len { result.len ≡ 0 }
+        ensures { text result ≡ [] }
     {
         Line {
             bytes: [0; MAX_LINE],
@@ -30,9 +31,8 @@ impl Line {
     }
 
     fn put(&mut self, part: &[u8])
-        requires { self.old.len + length part.now ≤ 160 }
-        ensures text { text self.new ≡ text self.old ++ part.now }
-        ensures len { self.new.len ≡ self.old.len + length part.now }
+        requires { length (text self.old) + length part.now ≤ 160 }
+        ensures { text self.new ≡ text self.old ++ part.now }
     {
         let at = self.len;
         let to = at + part.len();
@@ -40,52 +40,15 @@ impl Line {
         self.len = to;
     }
 
-    fn put_digits(&mut self, n: usize)
-        requires { self.old.len + length (decimal n) ≤ 160 }
-        ensures text { text self.new ≡ text self.old ++ decimal n }
-        ensures len { self.new.len ≡ self.old.len + length (decimal n) }
-    {
-        if n < 10 {
-            let digit = [b'0' + n as u8];
-            self.put(&digit);
-            return;
-        }
-        self.put_digits(n / 10);
-        let digit = [b'0' + (n % 10) as u8];
-        self.put(&digit);
-    }
-
     // The number in decimal digits, at most 20 of them.
     fn put_number(&mut self, n: usize)
-        requires { self.old.len + 20 ≤ 160 }
+        requires { length (text self.old) + 20 ≤ 160 }
         ensures text { text self.new ≡ text self.old ++ decimal n }
-        ensures len { self.new.len ≤ self.old.len + 20 }
+        ensures short { length (text self.new) ≤ length (text self.old) + 20 }
     {
-        self.put_digits(n);
+        let mut digits = itoa::Buffer::new();
+        self.put(digits.format(n).as_bytes());
     }
-}
-
-// "PLACE KIND ", with which the line of a record begins
-fn record_head(place: usize, kind: u16) -> Line
-    ensures text { text result ≡ record_head place kind }
-    ensures len { result.len ≤ 42 }
-{
-    let mut line = Line::empty();
-    line.put_number(place);
-    line.put(b" ");
-    line.put_number(kind as usize);
-    line.put(b" ");
-    line
-}
-
-// "PLACE KIND ok"
-pub fn ok_line(place: usize, kind: u16) -> Line
-    ensures { text result ≡ ok_line place kind }
-{
-    let mut line = record_head(place, kind);
-    line.put(b"ok");
-    line.put(b"\n");
-    line
 }
 
 fn layer_name(layer: Layer) -> &'static [u8]
@@ -98,27 +61,52 @@ fn layer_name(layer: Layer) -> &'static [u8]
     }
 }
 
-// "PLACE KIND no register NUMBER" or "PLACE KIND no kernel NUMBER"
-pub fn no_line(place: usize, kind: u16, layer: Layer, number: u8) -> Line
-    ensures { text result ≡ no_line place kind layer number }
-{
-    let mut line = record_head(place, kind);
-    line.put(b"no");
-    line.put(b" ");
-    line.put(layer_name(layer));
-    line.put(b" ");
-    line.put_number(number as usize);
-    line.put(b"\n");
-    line
-}
+impl Head {
+    // "PLACE KIND "
+    fn begin(self) -> Line
+        ensures value { text result ≡ record_head self.place self.kind }
+        ensures short { length (text result) ≤ 42 }
+    {
+        let mut line = Line::empty();
+        line.put_number(self.place);
+        line.put(b" ");
+        line.put_number(self.kind as usize);
+        line.put(b" ");
+        line
+    }
 
-// The line of one answered record.
-pub fn answer_line(place: usize, kind: u16, outcome: Outcome) -> Line
-    ensures { text result ≡ answer_line place kind outcome }
-{
-    match outcome {
-        Outcome::Accepted => ok_line(place, kind),
-        Outcome::Refused { layer, number } => no_line(place, kind, layer, number),
+    // "PLACE KIND ok"
+    pub fn ok_line(self) -> Line
+        ensures { text result ≡ ok_line self.place self.kind }
+    {
+        let mut line = self.begin();
+        line.put(b"ok");
+        line.put(b"\n");
+        line
+    }
+
+    // "PLACE KIND no register NUMBER" or "PLACE KIND no kernel NUMBER"
+    pub fn no_line(self, refusal: Refusal) -> Line
+        ensures { text result ≡ no_line self.place self.kind refusal.layer refusal.number }
+    {
+        let mut line = self.begin();
+        line.put(b"no");
+        line.put(b" ");
+        line.put(layer_name(refusal.layer));
+        line.put(b" ");
+        line.put_number(refusal.number as usize);
+        line.put(b"\n");
+        line
+    }
+
+    // The line of one answered record.
+    pub fn answer_line(self, outcome: Outcome) -> Line
+        ensures { text result ≡ answer_line self.place self.kind outcome }
+    {
+        match outcome {
+            Ok(()) => self.ok_line(),
+            Err(refusal) => self.no_line(refusal),
+        }
     }
 }
 
@@ -135,15 +123,15 @@ pub fn end_line(size: usize) -> Line
 }
 
 // "bad PLACE NUMBER", the last line of a book that is damaged
-pub fn bad_line(place: usize, fault: Fault) -> Line
-    ensures { text result ≡ bad_line place fault }
+pub fn bad_line(damage: Damage) -> Line
+    ensures { text result ≡ bad_line damage.place damage.fault }
 {
     let mut line = Line::empty();
     line.put(b"bad");
     line.put(b" ");
-    line.put_number(place);
+    line.put_number(damage.place);
     line.put(b" ");
-    line.put_number(fault.number() as usize);
+    line.put_number(damage.fault.number() as usize);
     line.put(b"\n");
     line
 }
@@ -153,7 +141,8 @@ pub fn command_line(place: usize, command: Command) -> Line
     ensures { text result ≡ command_line place command }
 {
     let encoded = command.encode();
-    let mut line = record_head(place, encoded.kind());
+    let kind = encoded.kind();
+    let mut line = Head { place, kind }.begin();
     line.put(command.name().as_bytes());
     let fields = encoded.fields();
     for word in fields {

@@ -1,6 +1,6 @@
 -- The lines of the entries, one after another.
-use Rattle.std.proofs.Common.{◌≡◌, ℕ, ◌+◌, ◌≤◌, List, [], ◌∷◌, ◌++◌, length, drop, sym, ap, ◌∙◌, append_assoc, append-nil, arith, length-append}
-use Rattle.book.specs.Tiling.{Entry, entry_bytes, book_bytes, Tiles}
+use Rattle.std.proofs.Common.{◌≡◌, ℕ, ◌+◌, List, [], ◌∷◌, ◌++◌, length, sym, ap, ◌∙◌, append_assoc, append-nil, arith, length-append}
+use Rattle.book.specs.Tiling.{Entry, entry_bytes, book_bytes}
 use Rattle.book_report.specs.Report.{record_lines}
 use Rattle.lines.specs.Lines.{command_line}
 
@@ -11,7 +11,3 @@ lines_more from (f ∷ es) e at here =
     ap (λ l. command_line from f.command ++ l)
     (lines_more (from + length (entry_bytes f)) es e at (omega (arith, here, length-append (entry_bytes f) (book_bytes es))))
     ∙ sym (append_assoc (command_line from f.command) (record_lines (from + length (entry_bytes f)) es) (command_line at e.command))
-
--- entries that tile a book end within it
-pub tiles_within : (bs : List ℕ) (es : List Entry) (to : ℕ) → Tiles bs 0 es to → to ≤ length bs
-tiles_within bs es to t = omega (arith, ap length t.bytes, length-append (book_bytes es) (drop to bs), t.long)

@@ -1,119 +1,79 @@
 // What `book_check` prints of a book.
 #![tactic(auto)]
 
-ghost use Rattle.std.specs.Prelude.{◌≡◌, ℕ, ◌≤◌, ◌++◌, length, drop, IfOk, string_bytes, OnOk, slice_index};
-ghost use Rattle.book.specs.Format.{word};
-ghost use Rattle.book.specs.Tiling.{stop_place};
+ghost use Rattle.std.specs.Prelude.{◌≡◌, ℕ, ◌++◌, length, drop, IfOk, OnOk, Some};
 ghost use Rattle.lines.specs.Lines.{text};
 ghost use Rattle.book_report.specs.Report.{site_of, sentence, count_lines, closing, Listed, Reported};
 
-use book::reader::read;
+use book::reader::{HEADER, MAX_LEN, read, word_at};
 use book::survey::survey;
-use book::types::{Ending, Fault, Reading, Tally};
+use book::types::{Ending, Fault, Tally};
 use calls::command::Family;
 use calls::layout::fields_of;
 use lines::line::Line;
 use lines::{bad_line, command_line, count_line, end_line};
 use std::alloc::{AllocError, Global};
+use std::fmt;
 
 pub mod site;
 
-use site::Site;
-
-fn byte_or_zero(bytes: &[u8], at: usize) -> u8
-    ensures { result ≡ slice_index bytes.now at }
-{
-    if at < bytes.len() { bytes[at] } else { 0 }
-}
-
-// The word at a place, with 0 for each byte that is not there.
-fn word_or_zero(bytes: &[u8], at: usize) -> u16
-    requires { at ≤ 2 }
-    ensures { result ≡ word bytes.now at }
-{
-    u16::from_le_bytes([byte_or_zero(bytes, at), byte_or_zero(bytes, at + 1)])
-}
+use site::{FaultAt, Site};
 
 impl Site {
-    fn new(size: usize, place: usize, rest: &[u8]) -> Site
-        ensures { result ≡ site_of size place rest.now }
+    fn new(book: &[u8], place: usize) -> Site
+        ensures { result ≡ site_of (length book.now) place (drop place book.now) }
     {
-        let kind = word_or_zero(rest, 2);
-        let due = 6 + 2 * fields_of(kind);
+        let rest = book.get(place..).unwrap_or(&[]);
+        let kind = word_at(rest, 2);
         Site {
-            size,
+            size: book.len(),
             place,
             left: rest.len(),
-            said: word_or_zero(rest, 0),
+            said: word_at(rest, 0),
             kind,
-            due,
+            due: HEADER + 2 * fields_of(kind),
         }
     }
+}
 
-    fn too_large(&self, heap: Global) -> Result<String, AllocError>
-        ensures { IfOk result (λ s. string_bytes s ≡ sentence self.now Fault.TooLarge) }
-    {
-        let size = self.size;
-        format!(in heap; "The book has {size} bytes, and the largest book has 65536.\n")
-    }
+// What is wrong there, in one sentence.
+impl fmt::Display for FaultAt {
+    ghost output = { λ x. Some (sentence x.site x.fault) };
 
-    fn unknown_kind(&self, heap: Global) -> Result<String, AllocError>
-        ensures { IfOk result (λ s. string_bytes s ≡ sentence self.now Fault.UnknownKind) }
-    {
-        let Site { place, kind, .. } = *self;
-        format!(in heap;
-            "The record at byte {place} is of kind {kind}, and the kinds are 1 to 30.\n"
-        )
-    }
-
-    fn wrong_length(&self, heap: Global) -> Result<String, AllocError>
-        ensures { IfOk result (λ s. string_bytes s ≡ sentence self.now Fault.BadLength) }
-    {
+    fn fmt<W: fmt::Write>(&self, f: &mut fmt::Formatter<W>) -> fmt::Result {
         let Site {
+            size,
             place,
             left,
             said,
-            ..
-        } = *self;
-        if left < 6 {
-            format!(in heap;
-                "The record at byte {place} is cut short: only {left} of at least 6 bytes remain.\n"
-            )
-        } else if said < 6 {
-            format!(in heap;
-                "The record at byte {place} gives its length as {said}, and no record has fewer than 6 bytes.\n"
-            )
-        } else {
-            format!(in heap;
-                "The record at byte {place} gives its length as {said}, and only {left} bytes remain.\n"
-            )
-        }
-    }
-
-    fn wrong_count(&self, heap: Global) -> Result<String, AllocError>
-        ensures { IfOk result (λ s. string_bytes s ≡ sentence self.now Fault.WrongFieldCount) }
-    {
-        let Site {
-            place,
-            said,
             kind,
             due,
-            ..
-        } = *self;
-        format!(in heap;
-            "The record at byte {place} gives its length as {said}, and a record of kind {kind} has {due} bytes.\n"
-        )
-    }
-
-    // What is wrong here, in one sentence.
-    fn explain(&self, heap: Global, fault: Fault) -> Result<String, AllocError>
-        ensures { IfOk result (λ s. string_bytes s ≡ sentence self.now fault) }
-    {
-        match fault {
-            Fault::TooLarge => self.too_large(heap),
-            Fault::BadLength => self.wrong_length(heap),
-            Fault::UnknownKind => self.unknown_kind(heap),
-            Fault::WrongFieldCount => self.wrong_count(heap),
+        } = self.site;
+        match self.fault {
+            Fault::TooLarge => writeln!(
+                f,
+                "The book has {size} bytes, and the largest book has 65536."
+            ),
+            Fault::BadLength if left < 6 => writeln!(
+                f,
+                "The record at byte {place} is cut short: only {left} of at least 6 bytes remain."
+            ),
+            Fault::BadLength if said < 6 => writeln!(
+                f,
+                "The record at byte {place} gives its length as {said}, and no record has fewer than 6 bytes."
+            ),
+            Fault::BadLength => writeln!(
+                f,
+                "The record at byte {place} gives its length as {said}, and only {left} bytes remain."
+            ),
+            Fault::UnknownKind => writeln!(
+                f,
+                "The record at byte {place} is of kind {kind}, and the kinds are 1 to 30."
+            ),
+            Fault::WrongFieldCount => writeln!(
+                f,
+                "The record at byte {place} gives its length as {said}, and a record of kind {kind} has {due} bytes."
+            ),
         }
     }
 }
@@ -129,8 +89,9 @@ fn record_lines(heap: Global, book: &[u8]) -> Result<Vec<u8>, AllocError>
     ensures { IfOk result (λ out. Listed book.now out.items) }
 {
     let mut out = Vec::new(heap);
+    // the place of the next record, which only the length of this one tells: no index is counted
     let mut at = 0;
-    while let Reading::Record(record) = read(book, at) {
+    while let Ok(Some(record)) = read(book, at) {
         put_line(&mut out, command_line(at, record.command().unwrap()))?;
         at += record.size();
     }
@@ -148,38 +109,24 @@ fn put_counts(out: &mut Vec<u8>, tally: Tally) -> Result<(), AllocError>
 }
 
 // What is wrong at a place of a book, in one sentence.
-fn put_sentence(
-    out: &mut Vec<u8>,
-    heap: Global,
-    book: &[u8],
-    place: usize,
-    fault: Fault,
-) -> Result<(), AllocError>
-    requires { place ≤ length book.now }
-    ensures { OnOk result (out.new.items ≡ out.old.items ++ sentence (site_of (length book.now) place (drop place book.now)) fault) }
+fn put_sentence(out: &mut Vec<u8>, fault: FaultAt) -> Result<(), AllocError>
+    ensures { OnOk result (out.new.items ≡ out.old.items ++ sentence fault.site fault.fault) }
 {
-    let site = Site::new(book.len(), place, &book[place..]);
-    let sentence = site.explain(heap, fault)?;
-    out.extend_from_slice(sentence.as_bytes())?;
-    Ok(())
+    let sentence = format!(in *out.allocator(); "{fault}")?;
+    out.extend_from_slice(sentence.as_bytes())
 }
 
 // The last lines: where the book ends, or what is wrong with it and where.
-fn put_closing(
-    out: &mut Vec<u8>,
-    heap: Global,
-    book: &[u8],
-    ending: Ending,
-) -> Result<(), AllocError>
-    requires { stop_place ending ≤ length book.now }
+fn put_closing(out: &mut Vec<u8>, book: &[u8], ending: Ending) -> Result<(), AllocError>
     ensures { OnOk result (out.new.items ≡ out.old.items ++ closing book.now ending) }
 {
     match ending {
-        Ending::End { length } => put_line(out, end_line(length)),
-        Ending::Bad { place, fault } => {
-            put_sentence(out, heap, book, place, fault)?;
-            put_line(out, bad_line(place, fault))?;
-            Ok(())
+        Ok(length) => put_line(out, end_line(length)),
+        Err(damage) => {
+            let site = Site::new(book, damage.place);
+            let fault = damage.fault;
+            put_sentence(out, FaultAt { site, fault })?;
+            put_line(out, bad_line(damage))
         }
     }
 }
@@ -191,6 +138,6 @@ pub fn report(heap: Global, book: &[u8]) -> Result<Vec<u8>, AllocError>
     let mut out = record_lines(heap, book)?;
     let survey = survey(book);
     put_counts(&mut out, survey.tally)?;
-    put_closing(&mut out, heap, book, survey.ending)?;
+    put_closing(&mut out, book, survey.ending)?;
     Ok(out)
 }

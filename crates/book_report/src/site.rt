@@ -1,3 +1,5 @@
+use book::types::Fault;
+
 // The place of a fault, by the numbers that a sentence about it speaks of.
 #[derive(Clone, Copy)]
 pub struct Site {
@@ -11,4 +13,11 @@ pub struct Site {
     pub kind: u16,
     // how many bytes a record of that kind has
     pub due: usize,
+}
+
+// A fault with its site, shown as one sentence.
+#[derive(Clone, Copy)]
+pub struct FaultAt {
+    pub site: Site,
+    pub fault: Fault,
 }

@@ -6,10 +6,11 @@ mod tests {
     use book::answer::answer_at;
     use book::reader::read;
     use book::survey::survey;
-    use book::types::{Ending, Fault, Layer, Outcome, Reading};
+    use book::types::{Damage, Fault, Layer, Refusal};
     use book_report::report;
     use calls::layout::fields_of;
-    use lines::{answer_line, bad_line, end_line};
+    use lines::line::Head;
+    use lines::{bad_line, end_line};
     use std::alloc::{AllocError, Global};
     use std::process::Abort;
     use std::test::Fail;
@@ -23,11 +24,11 @@ mod tests {
     const COUNT: Fault = Fault::WrongFieldCount;
 
     fn ends(rt: &impl Abort, book: &[u8]) {
-        assert_eq!(rt; survey(book).ending, Ending::End { length: book.len() });
+        assert_eq!(rt; survey(book).ending, Ok(book.len()));
     }
 
     fn bad(rt: &impl Abort, book: &[u8], place: usize, fault: Fault) {
-        assert_eq!(rt; survey(book).ending, Ending::Bad { place, fault });
+        assert_eq!(rt; survey(book).ending, Err(Damage { place, fault }));
     }
 
     #[test]
@@ -67,9 +68,7 @@ mod tests {
             book[3] = 0;
             ends(&rt, &book[0..size]);
             bad(&rt, &book[0..size - 1], 0, LENGTH);
-            let Reading::Record(record) = read(&book, 0) else {
-                return Err(Fail::new("no record"));
-            };
+            let record = read(&book, 0)?.ok_or("no record")?;
             let command = record.command().ok_or("no command")?;
             assert_eq!(rt; command.encode().kind(), kind as u16);
             for word in command.encode().fields() {
@@ -100,10 +99,10 @@ mod tests {
         let mut book = users(rt.alloc(), 65_536)?;
         ends(&rt, book.as_slice());
         assert_eq!(rt; survey(book.as_slice()).tally.directory, 8_192);
-        assert!(rt; answer_at(book.as_mut_slice(), 65_528, Outcome::Accepted));
+        assert!(rt; answer_at(book.as_mut_slice(), 65_528, Ok(())));
         let mut over = users(rt.alloc(), 65_537)?;
         bad(&rt, over.as_slice(), 0, LONG);
-        assert!(rt; !answer_at(over.as_mut_slice(), 0, Outcome::Accepted));
+        assert!(rt; !answer_at(over.as_mut_slice(), 0, Ok(())));
         Ok(())
     }
 
@@ -130,7 +129,7 @@ mod tests {
             let before = survey(&book).ending;
             let number = 9;
             let layer = Layer::Kernel;
-            answer_at(&mut book, 0, Outcome::Refused { layer, number });
+            answer_at(&mut book, 0, Err(Refusal { layer, number }));
             assert_eq!(rt; survey(&book).ending, before);
         }
     }
@@ -138,10 +137,10 @@ mod tests {
     #[test]
     fn past_the_end(rt: HostRuntime) {
         let mut book = [8, 0, 1, 0, 255, 255, 0, 0];
-        assert!(rt; matches!(read(&book, 8), Reading::End));
-        assert!(rt; matches!(read(&book, usize::MAX), Reading::End));
-        assert!(rt; !answer_at(&mut book, usize::MAX, Outcome::Accepted));
-        assert!(rt; !answer_at(&mut book, 4, Outcome::Accepted));
+        assert!(rt; matches!(read(&book, 8), Ok(None)));
+        assert!(rt; matches!(read(&book, usize::MAX), Ok(None)));
+        assert!(rt; !answer_at(&mut book, usize::MAX, Ok(())));
+        assert!(rt; !answer_at(&mut book, 4, Ok(())));
         assert_eq!(rt; book, [8, 0, 1, 0, 255, 255, 0, 0]);
     }
 
@@ -151,11 +150,11 @@ mod tests {
         let mut book = [
             8, 0, 1, 0, 255, 255, 0, 0, 8, 0, 1, 0, 255, 255, 0, 0, 8, 0, 1, 0, 255,
         ];
-        let refused = Outcome::Refused {
+        let refused = Err(Refusal {
             layer: Layer::Kernel,
             number: 9,
-        };
-        assert!(rt; answer_at(&mut book, 0, Outcome::Accepted));
+        });
+        assert!(rt; answer_at(&mut book, 0, Ok(())));
         assert!(rt; answer_at(&mut book, 8, refused));
         assert!(rt; !answer_at(&mut book, 16, refused));
         assert_eq!(rt;
@@ -165,14 +164,18 @@ mod tests {
             ]
         );
         assert_eq!(rt;
-            answer_line(0, 1, Outcome::Accepted).as_bytes(),
+            Head { place: 0, kind: 1 }.answer_line(Ok(())).as_bytes(),
             b"0 1 ok\n".as_slice()
         );
         assert_eq!(rt;
-            answer_line(8, 1, refused).as_bytes(),
+            Head { place: 8, kind: 1 }.answer_line(refused).as_bytes(),
             b"8 1 no kernel 9\n".as_slice()
         );
-        assert_eq!(rt; bad_line(16, LENGTH).as_bytes(), b"bad 16 21\n".as_slice());
+        let damage = Damage {
+            place: 16,
+            fault: LENGTH,
+        };
+        assert_eq!(rt; bad_line(damage).as_bytes(), b"bad 16 21\n".as_slice());
         assert_eq!(rt; end_line(65_536).as_bytes(), b"end 65536\n".as_slice());
         let text = report(rt.alloc(), &book[16..21])?;
         assert_eq!(rt;

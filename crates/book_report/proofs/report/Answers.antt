@@ -1,13 +1,6 @@
 use Rattle.std.proofs.Common.{◌++◌, ap, ◌∙◌, append_assoc}
-use Rattle.book.specs.Tiling.{stop_place}
 use Rattle.book_report.specs.Report.{record_lines, count_lines, closing}
-use Rattle.book_report.proofs.Lines.{tiles_within}
 use Rattle.book_report.proofs.report.Goals as goal
-
-pub put_closing-requires : goal.put_closing-requires
-put_closing-requires c =
-    let surveyed = c.survey-survey.ensures in
-    tiles_within c.args.book.now surveyed.entries (stop_place c.survey-survey.result.ending) surveyed.tiles
 
 pub returns : goal.returns
 returns c =

@@ -1,7 +1,9 @@
 // Why the kernel refuses a call. What its register refuses travels whole inside.
 ghost use Rattle.std.specs.Prelude.{◌≡◌};
+ghost use Rattle.book.specs.Numbers.{layer_number};
 ghost use Rattle.rules.specs.Told.{fault_number, fault_layer};
 
+use book::types::Layer;
 use register::fault::RegisterFault;
 
 #[derive(Clone, Copy, PartialEq, Eq, Debug)]
@@ -57,13 +59,13 @@ impl KernelFault {
         }
     }
 
-    // Which layer refused: 1 for the register, 2 for the kernel.
-    pub fn layer(self) -> u8
-        ensures { result ≡ fault_layer self }
+    // Which layer refused.
+    pub fn layer(self) -> Layer
+        ensures { layer_number result ≡ fault_layer self }
     {
         match self {
-            KernelFault::Register(_) => 1,
-            _ => 2,
+            KernelFault::Register(_) => Layer::Register,
+            _ => Layer::Kernel,
         }
     }
 }

@@ -11,12 +11,10 @@ mod hierarchies;
 
 // How many roles are reached in all, from the top and one role more, in so many rounds.
 fn reached(hierarchy: &Hierarchy, rounds: u32) -> u64 {
-    let mut total = 0u64;
-    for round in 0..rounds {
+    (0..rounds).fold(0, |total: u64, round| {
         let start = RoleSet::empty().with(0).with((round % 64) as u16);
-        total = total.wrapping_add(hierarchy.reach(start).len() as u64);
-    }
-    total
+        total.wrapping_add(hierarchy.reach(start).len() as u64)
+    })
 }
 
 fn measure(rt: HostRuntime, name: &str, hierarchy: &Hierarchy, rounds: u32) -> anyhow::Result<()> {

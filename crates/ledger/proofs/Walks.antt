@@ -4,14 +4,13 @@ use Rattle.std.proofs.lemmas.List.{get_or-append_right, get_or_default, length-m
 use Rattle.std.proofs.lemmas.List.Sums.{count_by_more_yes, count_by_more_no}
 use Rattle.std.proofs.lemmas.List.Edits.{map_over_more}
 use Rattle.ledger.specs.Answers.{Answer, done_answer, fault_number}
-use Rattle.ledger.specs.Places.{Permits, is_open, place_answer, place_after, meets, cleared, placed, usage_at, usage_in, permits_of}
+use Rattle.ledger.specs.Places.{Permits, is_open, place_answer, place_after, meets, cleared, placed}
 use Rattle.ledger.specs.declared.fault.LedgerFault.{LedgerFault}
 use Rattle.ledger.specs.declared.fault.LedgerFault.TheVariants.{OutOfRange, PlacesTaken, SerialsUsedUp, NotOpen}
 use Rattle.ledger.specs.declared.place.Event.TheVariants.{Draw}
 use Rattle.ledger.specs.declared.place.Place.{Place}
 use Rattle.ledger.specs.declared.place.Place.TheVariants.{Empty, Open}
 use Rattle.ledger.specs.declared.place.Use.{Use}
-use Rattle.ledger.specs.declared.place.Which.TheVariants.{Serial}
 
 -- a place that took a draw holds the permit, and one that did not is as it was
 module _ (n : ℕ) (u : Use) where
@@ -67,12 +66,3 @@ module _ (these : Permits) (ps qs : List Place) (i : ℕ) (lt : i < length ps) (
 
   pub count_no : meets these (get_or qs i Empty) ≡ false → count_by (meets these) (take (i + 1) ps) ≡ count_by (meets these) (take i ps)
   count_no h = count_by_more_no (meets these) ps i Empty lt (ap (meets these) (sym untouched) ∙ h)
-
--- the first place with the serial has the use
-pub usage_here : (n : ℕ) (p : Place) (ps : List Place) → meets (permits_of (Serial n)) p ≡ true → usage_in (p ∷ ps) n ≡ usage_at p
-usage_here n Empty ps e = let z : ◌≡◌ {A = ℕ} 0 1 = cc in absurd (omega arith)
-usage_here n (Open m v) ps e = rw e refl
-
-pub usage_next : (n : ℕ) (p : Place) (ps : List Place) → meets (permits_of (Serial n)) p ≡ false → usage_in (p ∷ ps) n ≡ usage_in ps n
-usage_next n Empty ps e = refl
-usage_next n (Open m v) ps e = rw e refl

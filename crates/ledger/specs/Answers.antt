@@ -38,7 +38,7 @@ abbrev pub serial_answer : Result ℕ LedgerFault → Answer
 serial_answer = answer_of (λ n. n ∷ []) []
 
 abbrev pub permit_answer : Result Permit LedgerFault → Answer
-permit_answer = answer_of (λ p. p.owner ∷ p.serial ∷ []) []
+permit_answer = answer_of (λ p. p.number.owner ∷ p.number.serial ∷ []) []
 
 abbrev pub usage_answer : Result Use LedgerFault → Answer
 usage_answer = answer_of (λ u. u.session ∷ u.operation ∷ u.object ∷ u.purpose ∷ []) []

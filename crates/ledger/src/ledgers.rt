@@ -4,13 +4,13 @@ ghost use Rattle.ledger.specs.Answers.{counts_answer, done_answer, serial_answer
 ghost use Rattle.ledger.specs.Places.{usage_in};
 ghost use Rattle.ledger.specs.States.{Sound};
 ghost use Rattle.ledger.specs.Table.{ledgers_of, bare_ledgers, draw_answer, draw_left, close_answer, close_left, use_answer, owner_answer, owner_left, sessions_left, ledger_answer};
-ghost use Rattle.ledger.specs.declared.place.Closing.TheVariants.{Entry, HandingBack, Lapse};
 
 use crate::counts::Counts;
 use crate::fault::LedgerFault;
 use crate::ledger::Ledger;
-use crate::place::{Closing, Use};
-use bits::set::SessionSet;
+use crate::permit::PermitNumber;
+use crate::place::{Closing, Use, Which};
+use bits::wide::SessionSet;
 
 // One ledger for each owner number.
 #[derive(Drop)]
@@ -46,50 +46,32 @@ impl Ledgers {
         ledger.draw(usage)
     }
 
-    // Closes one permit.
-    fn settle(&mut self, owner: u16, serial: u16, closing: Closing) -> Result<(), LedgerFault>
-        ensures answer { done_answer result ≡ close_answer owner serial (ledgers_of self.old) }
-        ensures left { ledgers_of self.new ≡ close_left closing owner serial (ledgers_of self.old) }
+    // Closes one permit: it is entered, handed back or lapses, which is an entry that is refused by what is above.
+    pub fn close_serial(
+        &mut self,
+        number: PermitNumber,
+        closing: Closing,
+    ) -> Result<(), LedgerFault>
+        ensures answer { done_answer result ≡ close_answer number.owner number.serial (ledgers_of self.old) }
+        ensures left { ledgers_of self.new ≡ close_left closing number.owner number.serial (ledgers_of self.old) }
     {
-        if owner >= 128 {
+        if number.owner >= 128 {
             return Err(LedgerFault::OutOfRange);
         }
-        let ledger = &mut self.all[owner as usize];
-        ledger.settle(serial, closing)
-    }
-
-    pub fn enter_serial(&mut self, owner: u16, serial: u16) -> Result<(), LedgerFault>
-        ensures answer { done_answer result ≡ close_answer owner serial (ledgers_of self.old) }
-        ensures left { ledgers_of self.new ≡ close_left Entry owner serial (ledgers_of self.old) }
-    {
-        self.settle(owner, serial, Closing::Entry)
-    }
-
-    pub fn hand_back_serial(&mut self, owner: u16, serial: u16) -> Result<(), LedgerFault>
-        ensures answer { done_answer result ≡ close_answer owner serial (ledgers_of self.old) }
-        ensures left { ledgers_of self.new ≡ close_left HandingBack owner serial (ledgers_of self.old) }
-    {
-        self.settle(owner, serial, Closing::HandingBack)
-    }
-
-    // The lapse of one permit: an entry that is refused by what is above.
-    pub fn lapse_serial(&mut self, owner: u16, serial: u16) -> Result<(), LedgerFault>
-        ensures answer { done_answer result ≡ close_answer owner serial (ledgers_of self.old) }
-        ensures left { ledgers_of self.new ≡ close_left Lapse owner serial (ledgers_of self.old) }
-    {
-        self.settle(owner, serial, Closing::Lapse)
+        let ledger = &mut self.all[number.owner as usize];
+        ledger.settle(number.serial, closing)
     }
 
     // What an open permit was drawn for.
-    pub fn usage_of(&self, owner: u16, serial: u16) -> Result<Use, LedgerFault>
-        ensures answer { usage_answer result ≡ use_answer owner serial (ledgers_of self.now) }
-        ensures found { IfOk result (λ u. usage_in (ledgers_of self.now owner).places serial ≡ Some u) }
+    pub fn usage_of(&self, number: PermitNumber) -> Result<Use, LedgerFault>
+        ensures answer { usage_answer result ≡ use_answer number.owner number.serial (ledgers_of self.now) }
+        ensures found { IfOk result (λ u. usage_in (ledgers_of self.now number.owner).places number.serial ≡ Some u) }
     {
-        if owner >= 128 {
+        if number.owner >= 128 {
             return Err(LedgerFault::OutOfRange);
         }
-        self.all[owner as usize]
-            .usage(serial)
+        self.all[number.owner as usize]
+            .usage(number.serial)
             .ok_or(LedgerFault::NotOpen)
     }
 
@@ -102,7 +84,7 @@ impl Ledgers {
             return Err(LedgerFault::OutOfRange);
         }
         let ledger = &mut self.all[owner as usize];
-        ledger.lapse_all();
+        ledger.close(Which::All, Closing::Lapse);
         Ok(())
     }
 
@@ -110,9 +92,8 @@ impl Ledgers {
     pub fn lapse_sessions(&mut self, sessions: SessionSet)
         ensures { ledgers_of self.new ≡ sessions_left sessions (ledgers_of self.old) }
     {
-        for owner in 0..128 {
-            let ledger = &mut self.all[owner];
-            ledger.lapse_sessions(sessions);
+        for ledger in &mut self.all {
+            ledger.close(Which::Sessions(sessions), Closing::Lapse);
         }
     }
 

@@ -1,23 +1,37 @@
 // A permit that was drawn. It has to be spent before it is let go: entered, handed back or lapsed.
 ghost use Rattle.std.specs.Prelude.{◌≡◌, true};
 
+// Which permit is meant: the owner whose ledger issued it, and its serial there.
+#[derive(Clone, Copy, PartialEq, Eq, Debug)]
+pub struct PermitNumber {
+    pub owner: u16,
+    pub serial: u16,
+}
+
+// The mark is a field and not a type of spent permits: a rule of the project has a permit spent by `&mut`, so that to spend
+// it twice is refused because a fact fails.
 pub struct Permit {
-    pub(crate) owner: u16,
-    pub(crate) serial: u16,
+    pub(crate) number: PermitNumber,
     pub(crate) spent: bool,
 }
 
 impl Permit {
-    pub fn owner(&self) -> u16
-        ensures { result ≡ self.now.owner }
+    pub fn number(&self) -> PermitNumber
+        ensures { result ≡ self.now.number }
     {
-        self.owner
+        self.number
+    }
+
+    pub fn owner(&self) -> u16
+        ensures { result ≡ self.now.number.owner }
+    {
+        self.number.owner
     }
 
     pub fn serial(&self) -> u16
-        ensures { result ≡ self.now.serial }
+        ensures { result ≡ self.now.number.serial }
     {
-        self.serial
+        self.number.serial
     }
 }
 
@@ -26,8 +40,7 @@ impl Drop for Permit {
         requires { self.spent ≡ true }
     {
         let Permit {
-            owner: _,
-            serial: _,
+            number: _,
             spent: _,
         } = self;
     }

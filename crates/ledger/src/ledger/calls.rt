@@ -3,14 +3,11 @@ ghost use Rattle.std.specs.Prelude.{◌≡◌, ◌+◌, [], ◌∷◌, IfOk, Som
 ghost use Rattle.ledger.specs.Answers.{answered, done_answer, serial_answer};
 ghost use Rattle.ledger.specs.Places.{meets, permits_of, usage_in};
 ghost use Rattle.ledger.specs.States.{state_of, empty_ledger, opens, counts_of, draw_questions, close_questions, closed, after_draw, after_close};
-ghost use Rattle.ledger.specs.declared.place.Closing.TheVariants.{Lapse};
-ghost use Rattle.ledger.specs.declared.place.Which.TheVariants.{Sessions, All};
 
 use super::{Ledger, places};
 use crate::counts::Counts;
 use crate::fault::LedgerFault;
 use crate::place::{Closing, Place, Use, Which};
-use bits::set::SessionSet;
 
 impl Ledger {
     pub(crate) fn new() -> Ledger
@@ -72,7 +69,7 @@ impl Ledger {
     }
 
     // Closes the permits that are meant and counts them.
-    fn close(&mut self, which: Which, closing: Closing) -> u16
+    pub(crate) fn close(&mut self, which: Which, closing: Closing) -> u16
         ensures many { result ≡ count_by (meets (permits_of which)) self.old.places }
         ensures left { state_of self.new ≡ closed closing (permits_of which) (state_of self.old) }
     {
@@ -94,19 +91,5 @@ impl Ledger {
             return Err(LedgerFault::NotOpen);
         }
         Ok(())
-    }
-
-    // The open permits of sessions that end lapse.
-    pub(crate) fn lapse_sessions(&mut self, sessions: SessionSet)
-        ensures { state_of self.new ≡ closed Lapse (permits_of (Sessions sessions)) (state_of self.old) }
-    {
-        self.close(Which::Sessions(sessions), Closing::Lapse);
-    }
-
-    // All open permits lapse.
-    pub(crate) fn lapse_all(&mut self)
-        ensures { state_of self.new ≡ closed Lapse (permits_of All) (state_of self.old) }
-    {
-        self.close(Which::All, Closing::Lapse);
     }
 }

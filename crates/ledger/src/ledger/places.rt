@@ -8,8 +8,8 @@ use crate::place::{Closing, Event, Place, Use, Which};
 pub(super) fn draw(places: &mut [Place], serial: u16, usage: Use)
     ensures { places.new ≡ placed serial usage places.old }
 {
-    for at in 0..places.len() {
-        if places[at].take(Event::Draw { serial, usage }).is_ok() {
+    for place in places {
+        if place.take(Event::Draw { serial, usage }).is_ok() {
             return;
         }
     }
@@ -35,10 +35,8 @@ pub(super) fn close(places: &mut [Place], which: Which, closing: Closing) -> u16
 pub(super) fn usage(places: &[Place], serial: u16) -> Option<Use>
     ensures { result ≡ usage_in places.now serial }
 {
-    for place in places {
-        if place.meets(Which::Serial(serial)) {
-            return place.usage();
-        }
-    }
-    None
+    places
+        .iter()
+        .find(|place| place.meets(Which::Serial(serial)))
+        .and_then(|place| place.usage())
 }

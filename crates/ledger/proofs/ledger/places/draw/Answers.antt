@@ -10,34 +10,34 @@ pub returns-then-is_ok : goal.returns-then-is_ok
 returns-then-is_ok c =
     let n = c.args.serial in
     let u = c.args.usage in
-    let ps = c.loop-at.places in
-    let i = c.loop-at.at in
+    let ps = c.loop-place.place-items in
+    let i = c.loop-place.place-index in
     let lt : i < length ps = omega arith in
     let here = drawn_here n u (get_or ps i Empty) c.take.result c.take.ensures.answer c.if-is_ok.ensures.value in
-    ap (set ps i) (c.take.ensures.left ∙ here.1) ∙ placed_here n u ps i lt here.0 ∙ sym c.loop-at.invariant.1 ∙ ap (placed n u) c.loop-at.invariant.0
+    ap (set ps i) (c.take.ensures.left ∙ here.1) ∙ placed_here n u ps i lt here.0 ∙ sym c.loop-place.invariant.1 ∙ ap (placed n u) c.loop-place.invariant.0
 
-pub loop-at-preserved : goal.loop-at-preserved
-loop-at-preserved c =
+pub loop-place-preserved : goal.loop-place-preserved
+loop-place-preserved c =
     let n = c.args.serial in
     let u = c.args.usage in
-    let ps = c.loop-at.places in
-    let i = c.loop-at.at in
+    let ps = c.loop-place.place-items in
+    let i = c.loop-place.place-index in
     let lt : i < length ps = omega arith in
     let past = not_here n u (get_or ps i Empty) c.take.result c.take.ensures.answer c.if-is_ok.ensures.value in
     let same : set ps i c.take.new.self ≡ ps = ap (set ps i) (c.take.ensures.left ∙ past.1) ∙ set-get_or ps i Empty in (
-      same ∙ c.loop-at.invariant.0,
+      same ∙ c.loop-place.invariant.0,
       subst (λ (qs : List Place). placed n u qs ≡ take (i + 1) qs ++ placed n u (drop (i + 1) qs)) (sym same)
-          (c.loop-at.invariant.1 ∙ placed_next n u ps i lt past.0),
+          (c.loop-place.invariant.1 ∙ placed_next n u ps i lt past.0),
     )
 
 pub returns : goal.returns
 returns c =
     let n = c.args.serial in
     let u = c.args.usage in
-    let ps = c.loop-at.places in
-    let i = c.loop-at.at in
+    let ps = c.loop-place.place-items in
+    let i = c.loop-place.place-index in
     let le : length ps ≤ i = omega arith in
     let t : take i ps ≡ ps = take_all i ps le in
     let d : drop i ps ≡ [] = drop_all i ps le in
-    let none : placed n u ps ≡ ps = c.loop-at.invariant.1 ∙ ap (λ (qs : List Place). take i ps ++ placed n u qs) d ∙ append-nil (take i ps) ∙ t in
-    sym none ∙ ap (placed n u) c.loop-at.invariant.0
+    let none : placed n u ps ≡ ps = c.loop-place.invariant.1 ∙ ap (λ (qs : List Place). take i ps ++ placed n u qs) d ∙ append-nil (take i ps) ∙ t in
+    sym none ∙ ap (placed n u) c.loop-place.invariant.0

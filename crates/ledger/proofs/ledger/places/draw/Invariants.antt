@@ -3,7 +3,7 @@ use Rattle.ledger.specs.Places.{placed}
 use Rattle.ledger.proofs.ledger.places.draw.Given as goal
 
 -- the places behind are open, and nothing is changed yet
-abbrev pub invariant-loop-at : goal.invariant-loop-at
-invariant-loop-at l =
-    (l.places ≡ l.initial.places)
-    × (placed l.serial l.usage l.places ≡ take l.at l.places ++ placed l.serial l.usage (drop l.at l.places))
+abbrev pub invariant-loop-place : goal.invariant-loop-place
+invariant-loop-place l =
+    (l.place-items ≡ l.initial.place-items)
+    × (placed l.serial l.usage l.place-items ≡ take l.place-index l.place-items ++ placed l.serial l.usage (drop l.place-index l.place-items))

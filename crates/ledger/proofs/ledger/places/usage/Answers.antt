@@ -1,32 +1,23 @@
-use Rattle.std.proofs.Common.{◌+◌, List, get_or, drop, sym, ap, ◌∙◌, arith}
-use Rattle.std.proofs.lemmas.List.{drop_more, drop_all}
-use Rattle.ledger.specs.Places.{usage_in}
+use Rattle.std.proofs.Common.{◌≡◌, ℕ, true, false, cond, eqb, List, [], ◌∷◌, Some, ap, refl, ◌∙◌, rules, tests, Bor}
+use Rattle.std.proofs.lemmas.Iterator.{YieldsList-from_slice}
+use Rattle.std.proofs.lemmas.Iterator.Search.{find_from_yields_List}
+use Rattle.std.specs.List.{find}
+use Rattle.std.specs.Option.{option_and_then, option_map}
+use Rattle.ledger.specs.Places.{meets, permits_of, usage_at, usage_in}
 use Rattle.ledger.specs.declared.place.Place.{Place}
-use Rattle.ledger.specs.declared.place.Place.TheVariants.{Empty}
-use Rattle.ledger.proofs.Walks.{usage_here, usage_next}
+use Rattle.ledger.specs.declared.place.Place.TheVariants.{Empty, Open}
+use Rattle.ledger.specs.declared.place.Which.TheVariants.{Serial}
 use Rattle.ledger.proofs.ledger.places.usage.Goals as goal
 
-pub returns-then-meets : goal.returns-then-meets
-returns-then-meets c =
-    let n = c.args.serial in
-    let ps = c.args.places.now in
-    let i = c.loop-place.place-index in
-    c.usage.ensures
-    ∙ sym (usage_here n (get_or ps i Empty) (drop (i + 1) ps) (sym c.if-meets.ensures))
-    ∙ ap (λ (qs : List Place). usage_in qs n) (sym (drop_more ps i Empty (omega arith)))
-    ∙ sym c.loop-place.invariant
-
-pub loop-place-preserved : goal.loop-place-preserved
-loop-place-preserved c =
-    let n = c.args.serial in
-    let ps = c.args.places.now in
-    let i = c.loop-place.place-index in
-    c.loop-place.invariant
-    ∙ ap (λ (qs : List Place). usage_in qs n) (drop_more ps i Empty (omega arith))
-    ∙ usage_next n (get_or ps i Empty) (drop (i + 1) ps) (sym c.if-meets.ensures)
+found : (n : ℕ) (ps : List Place) → option_and_then usage_at (find (meets (permits_of (Serial n))) ps) ≡ usage_in ps n
+found n [] = refl
+found n (Empty ∷ ps) = found n ps
+found n (Open m v ∷ ps) = elim (eqb n m) as (λ b. option_and_then usage_at (cond b (Some (Open m v)) (find (meets (permits_of (Serial n))) ps)) ≡ cond b (Some v) (usage_in ps n)) [ true ↦ refl | false ↦ found n ps ]
 
 pub returns : goal.returns
 returns c =
+    let n = c.args.serial in
     let ps = c.args.places.now in
-    let i = c.loop-place.place-index in
-    sym (c.loop-place.invariant ∙ ap (λ (qs : List Place). usage_in qs c.args.serial) (drop_all i ps (omega arith)))
+    let first : option_map (λ (p : Bor Place). p.now) c.find.result ≡ find (meets (permits_of (Serial n))) ps = find_from_yields_List (meets (permits_of (Serial n))) _ _ c.find.result c.find.ensures.ran (YieldsList-from_slice ps cc) (λ x b q k. search (rules, tests)) in
+    let there : c.and_then.result ≡ option_and_then usage_at (option_map (λ (p : Bor Place). p.now) c.find.result) = search (rules, tests) in
+    there ∙ ap (option_and_then usage_at) first ∙ found n ps

@@ -16,5 +16,5 @@ returns c =
     let lt = c.if-owner-ge128.false in
     record {
       answer = table_answer ls o was in_all lt (λ _. []) (done_answer (Ok tt)) (λ _. []) [] refl;
-      left = table_left ls o was in_all lt (λ _. []) c.lapse_all.new.self (closed Lapse (permits_of All)) c.lapse_all.ensures;
+      left = table_left ls o was in_all lt (λ _. []) c.close.new.self (closed Lapse (permits_of All)) c.close.ensures.left;
     }

@@ -22,16 +22,16 @@ found_of (Some u) = refl
 pub returns : goal.returns
 returns c =
     let ls = c.args.self.now.all in
-    let o = c.args.owner in
-    let n = c.args.serial in
-    let was = c.index-self-owner.result in
+    let o = c.args.number.owner in
+    let n = c.args.number.serial in
+    let was = c.index-self-number.result in
     let in_all : o < length ls = search rules in
     let here = usage_in (table_of ls o).places n in
     let read : c.ok_or.result ≡ ok_or (usage_in (state_of (get_or ls o was)).places n) NotOpen = c.ok_or.ensures.value ∙ ap (λ (x : Option Use). ok_or x NotOpen) c.usage.ensures in
     let same : ok_or (usage_in (state_of (get_or ls o was)).places n) NotOpen ≡ ok_or here NotOpen = ap (λ (s : LedgerState). ok_or (usage_in s.places n) NotOpen) (table_at ls o was in_all) in
     record {
       answer =
-          table_answer ls o was in_all c.if-owner-ge128.false (close_questions n) (usage_answer c.ok_or.result) (λ s. use_values (usage_in s.places n)) []
+          table_answer ls o was in_all c.if-number-ge128.false (close_questions n) (usage_answer c.ok_or.result) (λ s. use_values (usage_in s.places n)) []
           (ap usage_answer read ∙ answer_of (usage_in (state_of (get_or ls o was)).places n));
       found = subst (λ (r : Result Use LedgerFault). IfOk r (λ u. here ≡ Some u)) (sym (read ∙ same)) (found_of here);
     }

@@ -1,6 +1,7 @@
 -- What is left of the places when some permits are closed.
 use Rattle.std.proofs.Common.{◌≡◌, ℕ, ◌+◌, Bool, true, false, cond, not, ◌&&◌, eqb, ltb, leb, List, [], ◌∷◌, map, is_some, Some, None, count_by, Option, sym, refl, ap, ◌∙◌, inl, inr, arith}
 use Rattle.std.proofs.lemmas.List.Sums.{sum_by-cons}
+use Rattle.std.proofs.lemmas.List.{length-map}
 use Rattle.std.proofs.lemmas.Bool.{cases_Bool, and_parts, and_from, eqb-true}
 use Rattle.bits.specs.Tables.{one}
 use Rattle.ledger.specs.Places.{Permits, is_open, meets, cleared, usage_in, inside, distinct, permits_of}
@@ -27,7 +28,7 @@ module _ (m : ℕ) (v : Use) (ps : List Place) (d : distinct (Open m v ∷ ps) �
     where
       none : (o : Option Use) → not (is_some o) ≡ true → o ≡ None
       none None e = refl
-      none (Some u) e = let z : ◌≡◌ {A = ℕ} 0 1 = cc in absurd (omega arith)
+      none (Some u) e = cc
 
   pub distinct_rest : distinct ps ≡ true
   distinct_rest = (and_parts (not (is_some (usage_in ps m))) (distinct ps) d).1
@@ -63,7 +64,7 @@ module _ (these : Permits) where
   closed_absent n [] e = refl
   closed_absent n (Empty ∷ ps) e = closed_absent n ps e
   closed_absent n (Open m v ∷ ps) e = elim (cases_Bool (eqb n m)) [
-    | inl same ↦ let z : ◌≡◌ {A = Option Use} (Some v) None = rw same at e in let y : ◌≡◌ {A = ℕ} 0 1 = cc in absurd (omega arith)
+    | inl same ↦ let z = rw same at e in cc
     | inr other ↦
         let rest = closed_absent n ps (rw other at e) in
         elim (these m v) as (λ b. usage_in (cond b Empty (Open m v) ∷ map (cleared these) ps) n ≡ None) [ true ↦ rest | false ↦ rw other rest ]
@@ -78,6 +79,9 @@ module _ (these : Permits) where
         | true ↦ rest
         | false ↦ distinct_from m v (map (cleared these) ps) (closed_absent m ps (distinct_first m v ps e)) rest
       ]
+
+-- what a ledger keeps when some permits are closed
+pub ruleset kept = (closed_opens, closed_inside, closed_distinct, length-map)
 
 -- the places with a serial are one where it is open, and else none
 pub count_serial : (n : ℕ) (ps : List Place) → distinct ps ≡ true → count_by (meets (permits_of (Serial n))) ps ≡ one (is_some (usage_in ps n))

@@ -1,5 +1,5 @@
 -- What is left of the places when a permit is drawn.
-use Rattle.std.proofs.Common.{◌≡◌, ℕ, suc, ◌+◌, ◌<◌, ◌≤◌, true, false, ◌&&◌, eqb, ltb, leb, ◌⊎◌, List, [], ◌∷◌, length, Some, None, count_by, Option, sym, refl, ap, ◌∙◌, inl, inr, arith}
+use Rattle.std.proofs.Common.{◌≡◌, ℕ, suc, ◌+◌, ◌<◌, ◌≤◌, true, false, ◌&&◌, eqb, ltb, leb, ◌⊎◌, List, [], ◌∷◌, length, Some, None, count_by, sym, refl, ap, ◌∙◌, inl, inr, arith}
 use mathlib.Core.Path.{fun_ext}
 use Rattle.std.proofs.lemmas.Bool.{cases_Bool, and_parts, and_from, ltb-true, leb-true, lt-ltb, le-leb, eq-eqb, ne_eqb, eqb-true}
 use Rattle.bits.specs.Tables.{put}
@@ -67,7 +67,7 @@ module _ (n : ℕ) (u : Use) where
   placed_at [] room new k = absurd (omega arith)
   placed_at (Empty ∷ ps) room new k = refl
   placed_at (Open m v ∷ ps) room new k = elim (cases_Bool (eqb n m)) [
-    | inl same ↦ let z : ◌≡◌ {A = Option Use} (Some v) None = rw same at new in let y : ◌≡◌ {A = ℕ} 0 1 = cc in absurd (omega arith)
+    | inl same ↦ let z = rw same at new in cc
     | inr other ↦
         let rest = placed_at ps (room_next m v ps room) (rw other at new) k in
         elim (cases_Bool (eqb k m)) [
@@ -80,7 +80,7 @@ module _ (n : ℕ) (u : Use) where
   ]
     where
       both : (a b : ℕ) → eqb a b ≡ false → a ≡ b → ⊥
-      both a b no_eq e = let y : eqb a b ≡ true = eq-eqb a b e in let z : ◌≡◌ {A = ℕ} 0 1 = cc in omega arith
+      both a b no_eq e = let y = eq-eqb a b e in cc
 
   pub placed_usage : (ps : List Place) → Room ps → usage_in ps n ≡ None → usage_in (placed n u ps) ≡ put n (Some u) (usage_in ps)
   placed_usage ps room new = fun_ext (placed_at ps room new)
@@ -98,7 +98,7 @@ module _ (n : ℕ) (u : Use) where
   still_absent [] k le e = refl
   still_absent (Empty ∷ ps) k le e = let other : eqb k (n + 1) ≡ false = ne_eqb k (n + 1) (λ s. omega arith) in rw other e
   still_absent (Open m v ∷ ps) k le e = elim (cases_Bool (eqb k m)) [
-    | inl same ↦ let z : ◌≡◌ {A = Option Use} (Some v) None = rw same at e in let y : ◌≡◌ {A = ℕ} 0 1 = cc in absurd (omega arith)
+    | inl same ↦ let z = rw same at e in cc
     | inr other ↦ rw other (still_absent ps k le (rw other at e))
   ]
 

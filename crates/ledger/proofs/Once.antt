@@ -3,7 +3,7 @@ use Rattle.std.proofs.Common.{◌≡◌, ℕ, ◌+◌, ◌<◌, true, eqb, List,
 use Rattle.std.proofs.lemmas.Bool.{cases_Bool, eq-eqb}
 use Rattle.bits.specs.Tables.{one}
 use Rattle.vocabulary.proofs.Puts.{put_here}
-use Rattle.ledger.specs.Places.{meets, cleared, placed, usage_in, permits_of}
+use Rattle.ledger.specs.Places.{meets, cleared, placed, usage_in, distinct, permits_of}
 use Rattle.ledger.specs.States.{LedgerState, opens, drawn, closed, at_once, Sound}
 use Rattle.ledger.specs.declared.place.Closing.{Closing}
 use Rattle.ledger.specs.declared.place.Closing.TheVariants.{Entry, HandingBack, Lapse}
@@ -11,27 +11,19 @@ use Rattle.ledger.specs.declared.place.Place.{Place}
 use Rattle.ledger.specs.declared.place.Place.TheVariants.{Empty, Open}
 use Rattle.ledger.specs.declared.place.Use.{Use}
 use Rattle.ledger.specs.declared.place.Which.TheVariants.{Serial}
-use Rattle.ledger.proofs.Closings.{count_serial, same_state}
+use Rattle.ledger.proofs.Closings.{distinct_rest, count_serial, cleared_none, same_state}
 use Rattle.ledger.proofs.Draws.{Room, absent, room_next, placed_usage, placed_distinct}
 
--- a serial that is not open is in no place
-none_with : (n : ℕ) (ps : List Place) → usage_in ps n ≡ None → map (cleared (permits_of (Serial n))) ps ≡ ps
-none_with n [] e = refl
-none_with n (Empty ∷ ps) e = ap (λ (qs : List Place). Empty ∷ qs) (none_with n ps e)
-none_with n (Open m v ∷ ps) e =
-    elim (cases_Bool (eqb n m)) [
-      | inl same ↦ let z : ◌≡◌ {A = Option Use} (Some v) None = rw same at e in let y : ◌≡◌ {A = ℕ} 0 1 = cc in absurd (omega arith)
-      | inr other ↦ rw other (ap (λ (qs : List Place). Open m v ∷ qs) (none_with n ps (rw other at e)))
-    ]
-
 -- the place that took the permit is empty again
-taken_back : (n : ℕ) (u : Use) (ps : List Place) → Room ps → usage_in ps n ≡ None → map (cleared (permits_of (Serial n))) (placed n u ps) ≡ ps
-taken_back n u [] room e = refl
-taken_back n u (Empty ∷ ps) room e = let itself : eqb n n ≡ true = eq-eqb n n refl in rw itself (ap (λ (qs : List Place). Empty ∷ qs) (none_with n ps e))
-taken_back n u (Open m v ∷ ps) room e =
+taken_back : (n : ℕ) (u : Use) (ps : List Place) → distinct ps ≡ true → Room ps → usage_in ps n ≡ None → map (cleared (permits_of (Serial n))) (placed n u ps) ≡ ps
+taken_back n u [] d room e = refl
+taken_back n u (Empty ∷ ps) d room e =
+    let itself : eqb n n ≡ true = eq-eqb n n refl in
+    rw itself (ap (λ (qs : List Place). Empty ∷ qs) (cleared_none (permits_of (Serial n)) ps (count_serial n ps d ∙ ap (λ (o : Option Use). one (is_some o)) e)))
+taken_back n u (Open m v ∷ ps) d room e =
     elim (cases_Bool (eqb n m)) [
-      | inl same ↦ let z : ◌≡◌ {A = Option Use} (Some v) None = rw same at e in let y : ◌≡◌ {A = ℕ} 0 1 = cc in absurd (omega arith)
-      | inr other ↦ rw other (ap (λ (qs : List Place). Open m v ∷ qs) (taken_back n u ps (room_next m v ps room) (rw other at e)))
+      | inl same ↦ let z = rw same at e in cc
+      | inr other ↦ rw other (ap (λ (qs : List Place). Open m v ∷ qs) (taken_back n u ps (distinct_rest m v ps d) (room_next m v ps room) (rw other at e)))
     ]
 
 module _ (u : Use) (s : LedgerState) (sound : Sound s) (few : opens s < 8) where
@@ -45,7 +37,7 @@ module _ (u : Use) (s : LedgerState) (sound : Sound s) (few : opens s < 8) where
   drawn_usage = ap (λ (f : ℕ → Option Use). f (s.issued + 1)) (placed_usage (s.issued + 1) u s.places room new) ∙ put_here (s.issued + 1) (usage_in s.places) (Some u)
 
   back : map (cleared (permits_of (Serial (s.issued + 1)))) (drawn u s).places ≡ s.places
-  back = taken_back (s.issued + 1) u s.places room new
+  back = taken_back (s.issued + 1) u s.places sound.apart room new
 
   single : count_by (meets (permits_of (Serial (s.issued + 1)))) (drawn u s).places ≡ 1
   single =

@@ -19,7 +19,7 @@ impl LedgerFault {
     }
 }
 
-// The number of an answer: 0 where the call was accepted.
+// The number of an answer, as a book's answer field has it: 0 where the call was accepted.
 pub fn answer_number<T>(answer: &Result<T, LedgerFault>) -> u8
     ensures { result ≡ number_of answer.now }
 {

@@ -21,18 +21,6 @@ impl Permit {
     {
         self.number
     }
-
-    pub fn owner(&self) -> u16
-        ensures { result ≡ self.now.number.owner }
-    {
-        self.number.owner
-    }
-
-    pub fn serial(&self) -> u16
-        ensures { result ≡ self.now.number.serial }
-    {
-        self.number.serial
-    }
 }
 
 impl Drop for Permit {

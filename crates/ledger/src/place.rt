@@ -1,6 +1,6 @@
 // A place of a ledger, and the events that it takes.
-ghost use Rattle.std.specs.Prelude.{◌≡◌};
-ghost use Rattle.ledger.specs.Places.{place_answer, place_after, meets, cleared, permits_of, usage_at};
+ghost use Rattle.std.specs.Prelude.{◌≡◌, not};
+ghost use Rattle.ledger.specs.Places.{is_open, place_answer, place_after, meets, cleared, permits_of, usage_at};
 ghost use Rattle.ledger.specs.Answers.{done_answer};
 
 use crate::fault::LedgerFault;
@@ -15,6 +15,7 @@ pub struct Use {
     pub purpose: u16,
 }
 
+// An enum of its own and not an `Option`: a rule of the project has it matched together with the event, and changed in place.
 #[derive(Clone, Copy)]
 pub enum Place {
     Empty,
@@ -22,7 +23,7 @@ pub enum Place {
 }
 
 // How a permit stops being open.
-#[derive(Clone, Copy)]
+#[derive(Clone, Copy, PartialEq, Eq, Debug)]
 pub enum Closing {
     Entry,
     HandingBack,
@@ -35,7 +36,7 @@ pub enum Event {
     Close(Closing),
 }
 
-// Which open permits are meant.
+// Which open permits are meant. An enum and not a closure: the contracts name by it which these are.
 #[derive(Clone, Copy)]
 pub enum Which {
     Serial(u16),
@@ -73,6 +74,12 @@ impl Place {
             (Place::Open { .. }, Event::Draw { .. }) => Err(LedgerFault::PlacesTaken),
             (Place::Empty, Event::Close(_)) => Err(LedgerFault::NotOpen),
         }
+    }
+
+    pub(crate) fn is_empty(&self) -> bool
+        ensures { result ≡ not (is_open self.now) }
+    {
+        matches!(self, Place::Empty)
     }
 
     pub(crate) fn usage(&self) -> Option<Use>

@@ -69,6 +69,7 @@ impl Ledger {
     }
 
     // Closes the permits that are meant and counts them.
+    #[tactic(auto, using(crate::proofs::Closings::kept))]
     pub(crate) fn close(&mut self, which: Which, closing: Closing) -> u16
         ensures many { result ≡ count_by (meets (permits_of which)) self.old.places }
         ensures left { state_of self.new ≡ closed closing (permits_of which) (state_of self.old) }

@@ -1,21 +1,27 @@
 // Walks over the places of a ledger.
-ghost use Rattle.std.specs.Prelude.{◌≡◌, ◌≤◌, map, length, count_by};
+ghost use Rattle.std.specs.Prelude.{◌≡◌, ◌≤◌, not, map, length, position, count_by};
 ghost use Rattle.ledger.specs.Places.{is_open, meets, cleared, placed, permits_of, usage_in};
 
 use crate::place::{Closing, Event, Place, Use, Which};
+
+// Where the first empty place is.
+fn first_empty(places: &[Place]) -> Option<usize>
+    ensures { result ≡ position (λ p. not (is_open p)) places.now }
+{
+    places.iter().position(|place| place.is_empty())
+}
 
 // The first empty place takes the draw.
 pub(super) fn draw(places: &mut [Place], serial: u16, usage: Use)
     ensures { places.new ≡ placed serial usage places.old }
 {
-    for place in places {
-        if place.take(Event::Draw { serial, usage }).is_ok() {
-            return;
-        }
+    if let Some(at) = first_empty(places) {
+        let _ = places[at].take(Event::Draw { serial, usage });
     }
 }
 
-// Closes the permits that are meant, and says how many there were.
+// Closes the permits that are meant, and says how many there were. A loop and no chain: a place is changed and counted in
+// the same step.
 pub(super) fn close(places: &mut [Place], which: Which, closing: Closing) -> u16
     requires { length places.old ≤ 8 }
     ensures many { result ≡ count_by (meets (permits_of which)) places.old }

@@ -65,10 +65,10 @@ module _ (a : Account) (s : LedgerState) (sound : Sound s) (acc : Accounted a s)
 
       never : (f : Fate) → is_issued f ≡ false → f ≡ NeverIssued
       never NeverIssued e = refl
-      never (StillOpen u) e = let z : ◌≡◌ {A = ℕ} 0 1 = cc in absurd (omega arith)
-      never WasEntered e = let z : ◌≡◌ {A = ℕ} 0 1 = cc in absurd (omega arith)
-      never WasHandedBack e = let z : ◌≡◌ {A = ℕ} 0 1 = cc in absurd (omega arith)
-      never HasLapsed e = let z : ◌≡◌ {A = ℕ} 0 1 = cc in absurd (omega arith)
+      never (StillOpen u) e = cc
+      never WasEntered e = cc
+      never WasHandedBack e = cc
+      never HasLapsed e = cc
 
   -- a draw gives no serial another fate
   pub drawn_count : (u : Use) (test : Fate → Bool) → Ended test → test NeverIssued ≡ false → how_many test a ≡ how_many test (issue_step u a)

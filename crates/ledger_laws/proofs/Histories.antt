@@ -10,7 +10,7 @@ use Rattle.vocabulary.proofs.Puts.{put_here, put_other}
 use Rattle.ledger.specs.Places.{usage_in, permits_of}
 use Rattle.ledger.specs.States.{LedgerState, empty_ledger, drawn, closed, Sound}
 use Rattle.ledger.specs.Table.{Table, known, close_asked}
-use Rattle.ledger.specs.declared.place.Closing.TheVariants.{Entry, HandingBack, Lapse}
+use Rattle.ledger.specs.declared.place.Closing.TheVariants.{Lapse}
 use Rattle.ledger.specs.declared.place.Use.{Use}
 use Rattle.ledger.specs.declared.place.Which.TheVariants.{Serial, All}
 use Rattle.ledger_laws.specs.Events.{call_answer, event_left}
@@ -18,8 +18,9 @@ use Rattle.ledger_laws.specs.Fates.{Fate, NeverIssued, StillOpen, WasEntered, Wa
 use Rattle.ledger_laws.specs.declared.event.LedgerEvent.{LedgerEvent}
 use Rattle.ledger_laws.specs.declared.event.LedgerEvent.TheVariants.{Of, SessionsEnd}
 use Rattle.ledger_laws.specs.declared.event.OwnerCall.{OwnerCall}
-use Rattle.ledger_laws.specs.declared.event.OwnerCall.TheVariants.{Draw, Enter, HandBack, LapseOne, LapseAll}
+use Rattle.ledger_laws.specs.declared.event.OwnerCall.TheVariants.{Draw, Close, LapseAll}
 use Rattle.ledger_laws.proofs.Owners.{event_accounted}
+use Rattle.ledger_laws.proofs.Steps.{closed_parts}
 use Rattle.ledger_laws.proofs.Serials.{count_none}
 
 -- nothing was drawn, and the account has nothing
@@ -52,9 +53,7 @@ grows_put zero k s f o le =
 
 event_grows : (e : LedgerEvent) (f : Table) (o : ℕ) → (f o).issued ≤ (event_left e f o).issued
 event_grows (Of k (Draw u)) f o = grows_put _ k (drawn u (f k)) f o (omega arith)
-event_grows (Of k (Enter n)) f o = grows_put _ k (closed Entry (permits_of (Serial n)) (f k)) f o (omega arith)
-event_grows (Of k (HandBack n)) f o = grows_put _ k (closed HandingBack (permits_of (Serial n)) (f k)) f o (omega arith)
-event_grows (Of k (LapseOne n)) f o = grows_put _ k (closed Lapse (permits_of (Serial n)) (f k)) f o (omega arith)
+event_grows (Of k (Close n c)) f o = grows_put _ k (closed c (permits_of (Serial n)) (f k)) f o (omega (arith, (closed_parts c (permits_of (Serial n)) (f k)).0))
 event_grows (Of k LapseAll) f o = grows_put _ k (closed Lapse (permits_of All) (f k)) f o (omega arith)
 event_grows (SessionsEnd ended) f o = omega arith
 
@@ -98,14 +97,10 @@ answer_told o call a f told =
 
     within_range : (call : OwnerCall) → Accounted a (f o) → call_answer o call f ≡ account_answer o call a
     within_range (Draw u) acc = λ k. first_no (known o ∷ asks 16 (ltb (acc.still_open k) 8) ∷ asks 17 (ltb (acc.issued k) 65535) ∷ [])
-    within_range (Enter n) acc = close_told acc n
-    within_range (HandBack n) acc = close_told acc n
-    within_range (LapseOne n) acc = close_told acc n
+    within_range (Close n c) acc = close_told acc n
     within_range LapseAll acc = refl
 
     out_of_range : (call : OwnerCall) → ltb o 128 ≡ false → call_answer o call f ≡ account_answer o call a
     out_of_range (Draw u) out = simp out
-    out_of_range (Enter n) out = simp out
-    out_of_range (HandBack n) out = simp out
-    out_of_range (LapseOne n) out = simp out
+    out_of_range (Close n c) out = simp out
     out_of_range LapseAll out = refl

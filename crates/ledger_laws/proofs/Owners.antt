@@ -8,14 +8,14 @@ use Rattle.ledger.specs.Places.{permits_of}
 use Rattle.ledger.specs.States.{LedgerState, drawn, closed, draw_questions, close_questions, after_close, Sound}
 use Rattle.ledger.specs.Table.{Table, known}
 use Rattle.ledger.specs.declared.place.Closing.{Closing}
-use Rattle.ledger.specs.declared.place.Closing.TheVariants.{Entry, HandingBack, Lapse}
+use Rattle.ledger.specs.declared.place.Closing.TheVariants.{Lapse}
 use Rattle.ledger.specs.declared.place.Which.TheVariants.{Serial, Sessions, All}
 use Rattle.ledger_laws.specs.Events.{call_left, event_left}
 use Rattle.ledger_laws.specs.Fates.{Account, call_step, step, close_step, Accounted}
 use Rattle.ledger_laws.specs.declared.event.LedgerEvent.{LedgerEvent}
 use Rattle.ledger_laws.specs.declared.event.LedgerEvent.TheVariants.{Of, SessionsEnd}
 use Rattle.ledger_laws.specs.declared.event.OwnerCall.{OwnerCall}
-use Rattle.ledger_laws.specs.declared.event.OwnerCall.TheVariants.{Draw, Enter, HandBack, LapseOne, LapseAll}
+use Rattle.ledger_laws.specs.declared.event.OwnerCall.TheVariants.{Draw, Close, LapseAll}
 use Rattle.ledger_laws.proofs.Steps.{close_accounted, close_all, draw_accounted}
 
 -- a call changes the ledger of its owner, and no other
@@ -33,9 +33,7 @@ elsewhere (suc n) o s f k other = refl
 
 pub call_elsewhere : (o : ℕ) (call : OwnerCall) (f : Table) (k : ℕ) → (k ≡ o → ⊥) → call_left o call f k ≡ f k
 call_elsewhere o (Draw u) f k other = elsewhere _ o (drawn u (f o)) f k other
-call_elsewhere o (Enter n) f k other = elsewhere _ o (closed Entry (permits_of (Serial n)) (f o)) f k other
-call_elsewhere o (HandBack n) f k other = elsewhere _ o (closed HandingBack (permits_of (Serial n)) (f o)) f k other
-call_elsewhere o (LapseOne n) f k other = elsewhere _ o (closed Lapse (permits_of (Serial n)) (f o)) f k other
+call_elsewhere o (Close n c) f k other = elsewhere _ o (closed c (permits_of (Serial n)) (f o)) f k other
 call_elsewhere o LapseAll f k other = elsewhere _ o (closed Lapse (permits_of All) (f o)) f k other
 
 -- the events, at the ledger of the owner o
@@ -50,9 +48,7 @@ module _ (o : ℕ) (lt : o < 128) (a : Account) (f : Table) (sound : Sound (f o)
   call_accounted (Draw u) after =
       let same = here f o draw_questions (drawn u) lt in
       subst (Accounted (call_step (Draw u) a)) (sym same) (draw_accounted a (f o) sound acc u (subst Sound same after))
-  call_accounted (Enter n) after = one_accounted Entry n (call_left o (Enter n) f o) (here f o (close_questions n) (closed Entry (permits_of (Serial n))) lt) after
-  call_accounted (HandBack n) after = one_accounted HandingBack n (call_left o (HandBack n) f o) (here f o (close_questions n) (closed HandingBack (permits_of (Serial n))) lt) after
-  call_accounted (LapseOne n) after = one_accounted Lapse n (call_left o (LapseOne n) f o) (here f o (close_questions n) (closed Lapse (permits_of (Serial n))) lt) after
+  call_accounted (Close n c) after = one_accounted c n (call_left o (Close n c) f o) (here f o (close_questions n) (closed c (permits_of (Serial n))) lt) after
   call_accounted LapseAll after =
       let same = here f o (λ _. []) (closed Lapse (permits_of All)) lt in
       subst (Accounted (call_step LapseAll a)) (sym same) (close_accounted a (f o) sound acc Lapse (permits_of All) (subst Sound same after))

@@ -18,10 +18,10 @@ use Rattle.ledger_laws.proofs.Serials.{kept, cleared_usage}
 use Rattle.ledger_laws.proofs.Counts.{closed_count, drawn_count, open_count}
 
 -- a closing adds to the count whose fate it is
-abbrev gain : Closing → Permits → LedgerState → (Fate → Bool) → ℕ
+abbrev pub gain : Closing → Permits → LedgerState → (Fate → Bool) → ℕ
 gain c these s test = cond (test (fate_by c)) (count_by (meets these) s.places) 0
 
-closed_parts : (c : Closing) (these : Permits) (s : LedgerState) → ((closed c these s).issued ≡ s.issued) × ((closed c these s).entered ≡ s.entered + gain c these s is_entered) × ((closed c these s).handed_back ≡ s.handed_back + gain c these s is_handed_back) × ((closed c these s).lapsed ≡ s.lapsed + gain c these s is_lapsed)
+pub closed_parts : (c : Closing) (these : Permits) (s : LedgerState) → ((closed c these s).issued ≡ s.issued) × ((closed c these s).entered ≡ s.entered + gain c these s is_entered) × ((closed c these s).handed_back ≡ s.handed_back + gain c these s is_handed_back) × ((closed c these s).lapsed ≡ s.lapsed + gain c these s is_lapsed)
 closed_parts Entry these s = (refl, refl, omega arith, omega arith)
 closed_parts HandingBack these s = (refl, omega arith, refl, omega arith)
 closed_parts Lapse these s = (refl, omega arith, omega arith, refl)

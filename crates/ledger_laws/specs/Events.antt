@@ -5,24 +5,19 @@ use Rattle.bits.specs.Tables.{put}
 use Rattle.ledger.specs.States.{at_once}
 use Rattle.ledger.specs.Table.{Table, known, draw_asked, draw_left, close_asked, close_left, owner_left, sessions_left}
 use Rattle.ledger.specs.declared.place.Closing.{Closing}
-use Rattle.ledger.specs.declared.place.Closing.TheVariants.{Entry, HandingBack, Lapse}
 use Rattle.ledger_laws.specs.declared.event.LedgerEvent.{LedgerEvent}
 use Rattle.ledger_laws.specs.declared.event.LedgerEvent.TheVariants.{Of, SessionsEnd}
 use Rattle.ledger_laws.specs.declared.event.OwnerCall.{OwnerCall}
-use Rattle.ledger_laws.specs.declared.event.OwnerCall.TheVariants.{Draw, Enter, HandBack, LapseOne, LapseAll}
+use Rattle.ledger_laws.specs.declared.event.OwnerCall.TheVariants.{Draw, Close, LapseAll}
 
 abbrev pub call_answer : ℕ → OwnerCall → Table → ℕ
 call_answer o (Draw u) f = first_no (draw_asked o f)
-call_answer o (Enter n) f = first_no (close_asked o n f)
-call_answer o (HandBack n) f = first_no (close_asked o n f)
-call_answer o (LapseOne n) f = first_no (close_asked o n f)
+call_answer o (Close n c) f = first_no (close_asked o n f)
 call_answer o LapseAll f = first_no (known o ∷ [])
 
 abbrev pub call_left : ℕ → OwnerCall → Table → Table
 call_left o (Draw u) f = draw_left o u f
-call_left o (Enter n) f = close_left Entry o n f
-call_left o (HandBack n) f = close_left HandingBack o n f
-call_left o (LapseOne n) f = close_left Lapse o n f
+call_left o (Close n c) f = close_left c o n f
 call_left o LapseAll f = owner_left o f
 
 abbrev pub event_answer : LedgerEvent → Table → ℕ

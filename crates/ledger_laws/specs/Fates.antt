@@ -12,7 +12,7 @@ use Rattle.ledger.specs.declared.place.Which.TheVariants.{Serial, Sessions, All}
 use Rattle.ledger_laws.specs.declared.event.LedgerEvent.{LedgerEvent}
 use Rattle.ledger_laws.specs.declared.event.LedgerEvent.TheVariants.{Of, SessionsEnd}
 use Rattle.ledger_laws.specs.declared.event.OwnerCall.{OwnerCall}
-use Rattle.ledger_laws.specs.declared.event.OwnerCall.TheVariants.{Draw, Enter, HandBack, LapseOne, LapseAll}
+use Rattle.ledger_laws.specs.declared.event.OwnerCall.TheVariants.{Draw, Close, LapseAll}
 
 -- a serial has exactly one of these
 pub data Fate : Type 0 where
@@ -102,9 +102,7 @@ close_step c these a = record { issued = a.issued; fate = λ n. close_fate c (th
 
 abbrev pub call_step : OwnerCall → Account → Account
 call_step (Draw u) a = draw_step u a
-call_step (Enter n) a = close_step Entry (permits_of (Serial n)) a
-call_step (HandBack n) a = close_step HandingBack (permits_of (Serial n)) a
-call_step (LapseOne n) a = close_step Lapse (permits_of (Serial n)) a
+call_step (Close n c) a = close_step c (permits_of (Serial n)) a
 call_step LapseAll a = close_step Lapse (permits_of All) a
 
 -- a call for another owner does not concern this one
@@ -120,9 +118,7 @@ account o (e ∷ es) = step o e (account o es)
 -- the number of the answer to a call for the owner o, from the account alone
 abbrev pub account_answer : ℕ → OwnerCall → Account → ℕ
 account_answer o (Draw u) a = first_no (known o ∷ asks 16 (nat_lt (how_many is_still_open a) 8) ∷ asks 17 (nat_lt a.issued 65535) ∷ [])
-account_answer o (Enter n) a = first_no (known o ∷ asks 18 (is_still_open (a.fate n)) ∷ [])
-account_answer o (HandBack n) a = first_no (known o ∷ asks 18 (is_still_open (a.fate n)) ∷ [])
-account_answer o (LapseOne n) a = first_no (known o ∷ asks 18 (is_still_open (a.fate n)) ∷ [])
+account_answer o (Close n c) a = first_no (known o ∷ asks 18 (is_still_open (a.fate n)) ∷ [])
 account_answer o LapseAll a = first_no (known o ∷ [])
 
 -- a ledger is as the account has it

@@ -3,14 +3,13 @@ ghost use Rattle.std.specs.Prelude.{◌≡◌, ◌<◌, IfOk};
 ghost use Rattle.vocabulary.specs.Questions.{first_no};
 ghost use Rattle.ledger.specs.Answers.{number_of};
 ghost use Rattle.ledger.specs.Table.{ledgers_of, draw_asked};
-ghost use Rattle.ledger.specs.declared.place.Closing.TheVariants.{Entry, HandingBack};
 ghost use Rattle.ledger_laws.specs.Events.{once_left};
 
 use crate::event::LedgerEvent;
 use crate::run::run;
 use ledger::fault::LedgerFault;
 use ledger::ledgers::Ledgers;
-use ledger::place::Use;
+use ledger::place::{Closing, Use};
 
 // The answers of two draws.
 pub struct TwoDraws {
@@ -28,20 +27,16 @@ pub fn draw_twice(ledgers: &mut Ledgers, owner: u16, usage: Use, events: &[Ledge
     TwoDraws { first, second }
 }
 
-// Draws a permit and enters it. A permit just drawn is never refused its entry, and the places are as they were.
-pub fn draw_then_enter(ledgers: &mut Ledgers, owner: u16, usage: Use) -> Result<(), LedgerFault>
+// Draws a permit and closes it. A permit just drawn is never refused that, and the places are as they were.
+pub fn draw_then_close(
+    ledgers: &mut Ledgers,
+    owner: u16,
+    usage: Use,
+    closing: Closing,
+) -> Result<(), LedgerFault>
     ensures answer { number_of result ≡ first_no (draw_asked owner (ledgers_of ledgers.old)) }
-    ensures left { ledgers_of ledgers.new ≡ once_left Entry owner (ledgers_of ledgers.old) }
+    ensures left { ledgers_of ledgers.new ≡ once_left closing owner (ledgers_of ledgers.old) }
 {
     let mut permit = ledgers.draw(owner, usage)?;
-    ledgers.enter(&mut permit)
-}
-
-// Draws a permit and hands it back. A permit just drawn is never refused, and the places are as they were.
-pub fn draw_then_hand_back(ledgers: &mut Ledgers, owner: u16, usage: Use) -> Result<(), LedgerFault>
-    ensures answer { number_of result ≡ first_no (draw_asked owner (ledgers_of ledgers.old)) }
-    ensures left { ledgers_of ledgers.new ≡ once_left HandingBack owner (ledgers_of ledgers.old) }
-{
-    let mut permit = ledgers.draw(owner, usage)?;
-    ledgers.hand_back(&mut permit)
+    ledgers.close(&mut permit, closing)
 }

@@ -1,14 +1,12 @@
 // The events that change the ledgers.
-use bits::set::SessionSet;
-use ledger::place::Use;
+use bits::wide::SessionSet;
+use ledger::place::{Closing, Use};
 
 // What is done for one owner.
 #[derive(Clone, Copy)]
 pub enum OwnerCall {
     Draw(Use),
-    Enter(u16),
-    HandBack(u16),
-    LapseOne(u16),
+    Close { serial: u16, closing: Closing },
     LapseAll,
 }
 

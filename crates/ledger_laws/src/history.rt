@@ -1,10 +1,12 @@
 // Whole histories: events from ledgers in which nothing was ever drawn.
 ghost use Rattle.std.specs.Prelude.{◌≡◌, ℕ, ◌<◌, reverse};
+ghost use Rattle.ledger.specs.Answers.{number_of};
 ghost use Rattle.ledger.specs.Table.{ledgers_of};
 ghost use Rattle.ledger_laws.specs.Fates.{account, Accounted, account_answer};
 
 use crate::event::{LedgerEvent, OwnerCall};
 use crate::run::{apply, call};
+use ledger::fault::LedgerFault;
 use ledger::ledgers::Ledgers;
 
 // Lets the events happen, in their order. The ledger of every owner is then as the account of the events has it.
@@ -13,14 +15,14 @@ pub fn history(events: &[LedgerEvent]) -> Ledgers
 {
     let mut ledgers = Ledgers::new();
     for event in events {
-        apply(&mut ledgers, *event);
+        let _ = apply(&mut ledgers, *event);
     }
     ledgers
 }
 
 // Makes one call after the events. It is answered as the account of the events says.
-pub fn next_answer(events: &[LedgerEvent], owner: u16, made: OwnerCall) -> u8
-    ensures { result ≡ account_answer owner made (account owner (reverse events.now)) }
+pub fn next_answer(events: &[LedgerEvent], owner: u16, made: OwnerCall) -> Result<(), LedgerFault>
+    ensures { number_of result ≡ account_answer owner made (account owner (reverse events.now)) }
 {
     let mut ledgers = history(events);
     call(&mut ledgers, owner, made)

@@ -1,36 +1,38 @@
 // Events, one by one and one after another.
 ghost use Rattle.std.specs.Prelude.{◌≡◌, ℕ, ◌≤◌, ◌≢◌};
+ghost use Rattle.ledger.specs.Answers.{number_of};
 ghost use Rattle.ledger.specs.Table.{ledgers_of};
 ghost use Rattle.ledger_laws.specs.Events.{call_answer, call_left, event_answer, event_left, all_left, calls_left};
 
 use crate::event::{LedgerEvent, OwnerCall};
-use ledger::fault::answer_number;
+use ledger::fault::LedgerFault;
 use ledger::ledgers::Ledgers;
+use ledger::permit::PermitNumber;
 
-// Makes one call for an owner and gives the number of its answer.
-pub fn call(ledgers: &mut Ledgers, owner: u16, call: OwnerCall) -> u8
-    ensures answer { result ≡ call_answer owner call (ledgers_of ledgers.old) }
+// Makes one call for an owner.
+pub fn call(ledgers: &mut Ledgers, owner: u16, call: OwnerCall) -> Result<(), LedgerFault>
+    ensures answer { number_of result ≡ call_answer owner call (ledgers_of ledgers.old) }
     ensures left { ledgers_of ledgers.new ≡ call_left owner call (ledgers_of ledgers.old) }
 {
     match call {
-        OwnerCall::Draw(usage) => answer_number(&ledgers.draw_serial(owner, usage)),
-        OwnerCall::Enter(serial) => answer_number(&ledgers.enter_serial(owner, serial)),
-        OwnerCall::HandBack(serial) => answer_number(&ledgers.hand_back_serial(owner, serial)),
-        OwnerCall::LapseOne(serial) => answer_number(&ledgers.lapse_serial(owner, serial)),
-        OwnerCall::LapseAll => answer_number(&ledgers.lapse_owner(owner)),
+        OwnerCall::Draw(usage) => ledgers.draw_serial(owner, usage).map(|_| ()),
+        OwnerCall::Close { serial, closing } => {
+            ledgers.close_serial(PermitNumber { owner, serial }, closing)
+        }
+        OwnerCall::LapseAll => ledgers.lapse_owner(owner),
     }
 }
 
-// Lets one event happen and gives the number of its answer.
-pub fn apply(ledgers: &mut Ledgers, event: LedgerEvent) -> u8
-    ensures answer { result ≡ event_answer event (ledgers_of ledgers.old) }
+// Lets one event happen.
+pub fn apply(ledgers: &mut Ledgers, event: LedgerEvent) -> Result<(), LedgerFault>
+    ensures answer { number_of result ≡ event_answer event (ledgers_of ledgers.old) }
     ensures left { ledgers_of ledgers.new ≡ event_left event (ledgers_of ledgers.old) }
 {
     match event {
         LedgerEvent::Of { owner, call: made } => call(ledgers, owner, made),
         LedgerEvent::SessionsEnd(sessions) => {
             ledgers.lapse_sessions(sessions);
-            0
+            Ok(())
         }
     }
 }
@@ -41,7 +43,7 @@ pub fn run(ledgers: &mut Ledgers, events: &[LedgerEvent])
     ensures grows { (o : ℕ) → (ledgers_of ledgers.old o).issued ≤ (ledgers_of ledgers.new o).issued }
 {
     for event in events {
-        apply(ledgers, *event);
+        let _ = apply(ledgers, *event);
     }
 }
 
@@ -51,6 +53,6 @@ pub fn run_owner(ledgers: &mut Ledgers, owner: u16, calls: &[OwnerCall])
     ensures others { (k : ℕ) → (k ≢ owner) → ledgers_of ledgers.new k ≡ ledgers_of ledgers.old k }
 {
     for made in calls {
-        call(ledgers, owner, *made);
+        let _ = call(ledgers, owner, *made);
     }
 }

@@ -7,8 +7,9 @@ mod tests {
     use ledger::counts::Counts;
     use ledger::fault::{LedgerFault, answer_number};
     use ledger::ledgers::Ledgers;
-    use ledger::place::Use;
-    use ledger_laws::draws::{draw_then_enter, draw_then_hand_back};
+    use ledger::permit::PermitNumber;
+    use ledger::place::{Closing, Use};
+    use ledger_laws::draws::draw_then_close;
     use ledger_laws::event::{LedgerEvent, OwnerCall};
     use ledger_laws::history::{history, next_answer};
     use std::test::Fail;
@@ -29,6 +30,17 @@ mod tests {
             handed_back,
             lapsed,
             open,
+        }
+    }
+
+    fn permit(owner: u16, serial: u16) -> PermitNumber {
+        PermitNumber { owner, serial }
+    }
+
+    fn entry_of(serial: u16) -> OwnerCall {
+        OwnerCall::Close {
+            serial,
+            closing: Closing::Entry,
         }
     }
 
@@ -55,10 +67,13 @@ mod tests {
     #[test]
     fn a_place_that_is_free_again_is_taken(rt: HostRuntime) {
         let mut ledgers = eight_open();
-        assert_eq!(rt; ledgers.hand_back_serial(4, 3), Ok(()));
+        assert_eq!(rt;
+            ledgers.close_serial(permit(4, 3), Closing::HandingBack),
+            Ok(())
+        );
         assert_eq!(rt; ledgers.draw_serial(4, usage(7)), Ok(9));
-        assert_eq!(rt; ledgers.usage_of(4, 9), Ok(usage(7)));
-        assert_eq!(rt; ledgers.usage_of(4, 3), Err(LedgerFault::NotOpen));
+        assert_eq!(rt; ledgers.usage_of(permit(4, 9)), Ok(usage(7)));
+        assert_eq!(rt; ledgers.usage_of(permit(4, 3)), Err(LedgerFault::NotOpen));
         assert_eq!(rt;
             ledgers.draw_serial(4, usage(7)),
             Err(LedgerFault::PlacesTaken)
@@ -69,14 +84,32 @@ mod tests {
     #[test]
     fn a_permit_is_closed_once(rt: HostRuntime) {
         let mut ledgers = eight_open();
-        assert_eq!(rt; ledgers.enter_serial(4, 1), Ok(()));
-        assert_eq!(rt; ledgers.enter_serial(4, 1), Err(LedgerFault::NotOpen));
-        assert_eq!(rt; ledgers.hand_back_serial(4, 1), Err(LedgerFault::NotOpen));
-        assert_eq!(rt; ledgers.lapse_serial(4, 2), Ok(()));
-        assert_eq!(rt; ledgers.enter_serial(4, 2), Err(LedgerFault::NotOpen));
-        assert_eq!(rt; ledgers.enter_serial(4, 0), Err(LedgerFault::NotOpen));
-        assert_eq!(rt; ledgers.enter_serial(4, 9), Err(LedgerFault::NotOpen));
-        assert_eq!(rt; ledgers.enter_serial(5, 3), Err(LedgerFault::NotOpen));
+        assert_eq!(rt; ledgers.close_serial(permit(4, 1), Closing::Entry), Ok(()));
+        assert_eq!(rt;
+            ledgers.close_serial(permit(4, 1), Closing::Entry),
+            Err(LedgerFault::NotOpen)
+        );
+        assert_eq!(rt;
+            ledgers.close_serial(permit(4, 1), Closing::HandingBack),
+            Err(LedgerFault::NotOpen)
+        );
+        assert_eq!(rt; ledgers.close_serial(permit(4, 2), Closing::Lapse), Ok(()));
+        assert_eq!(rt;
+            ledgers.close_serial(permit(4, 2), Closing::Entry),
+            Err(LedgerFault::NotOpen)
+        );
+        assert_eq!(rt;
+            ledgers.close_serial(permit(4, 0), Closing::Entry),
+            Err(LedgerFault::NotOpen)
+        );
+        assert_eq!(rt;
+            ledgers.close_serial(permit(4, 9), Closing::Entry),
+            Err(LedgerFault::NotOpen)
+        );
+        assert_eq!(rt;
+            ledgers.close_serial(permit(5, 3), Closing::Entry),
+            Err(LedgerFault::NotOpen)
+        );
         assert_eq!(rt; ledgers.counts(4), Ok(counts(8, 1, 0, 1, 6)));
     }
 
@@ -87,7 +120,10 @@ mod tests {
         ledgers.lapse_sessions(SessionSet::empty().with(2).with(9));
         assert_eq!(rt; ledgers.counts(4), Ok(counts(8, 0, 0, 4, 4)));
         assert_eq!(rt; ledgers.counts(127), Ok(counts(1, 0, 0, 1, 0)));
-        assert_eq!(rt; ledgers.enter_serial(4, 8), Err(LedgerFault::NotOpen));
+        assert_eq!(rt;
+            ledgers.close_serial(permit(4, 8), Closing::Entry),
+            Err(LedgerFault::NotOpen)
+        );
         assert_eq!(rt; ledgers.lapse_owner(4), Ok(()));
         assert_eq!(rt; ledgers.counts(4), Ok(counts(8, 0, 0, 8, 0)));
         assert_eq!(rt; ledgers.draw_serial(4, usage(1)), Ok(9));
@@ -97,11 +133,20 @@ mod tests {
     fn an_owner_out_of_range_is_1(rt: HostRuntime) {
         let mut ledgers = eight_open();
         assert_eq!(rt; answer_number(&ledgers.draw_serial(128, usage(1))), 1);
-        assert_eq!(rt; answer_number(&ledgers.enter_serial(128, 1)), 1);
-        assert_eq!(rt; answer_number(&ledgers.hand_back_serial(128, 1)), 1);
-        assert_eq!(rt; answer_number(&ledgers.lapse_serial(128, 1)), 1);
+        assert_eq!(rt;
+            answer_number(&ledgers.close_serial(permit(128, 1), Closing::Entry)),
+            1
+        );
+        assert_eq!(rt;
+            answer_number(&ledgers.close_serial(permit(128, 1), Closing::HandingBack)),
+            1
+        );
+        assert_eq!(rt;
+            answer_number(&ledgers.close_serial(permit(128, 1), Closing::Lapse)),
+            1
+        );
         assert_eq!(rt; answer_number(&ledgers.lapse_owner(65_535)), 1);
-        assert_eq!(rt; answer_number(&ledgers.usage_of(128, 1)), 1);
+        assert_eq!(rt; answer_number(&ledgers.usage_of(permit(128, 1))), 1);
         assert_eq!(rt; answer_number(&ledgers.counts(128)), 1);
     }
 
@@ -109,7 +154,7 @@ mod tests {
     fn serials_end_at_65_535(rt: HostRuntime) {
         let mut ledgers = Ledgers::new();
         for _ in 0..65_534u16 {
-            let _ = draw_then_hand_back(&mut ledgers, 4, usage(1));
+            let _ = draw_then_close(&mut ledgers, 4, usage(1), Closing::HandingBack);
         }
         assert_eq!(rt; ledgers.counts(4), Ok(counts(65_534, 0, 65_534, 0, 0)));
         assert_eq!(rt; ledgers.draw_serial(4, usage(1)), Ok(65_535));
@@ -117,7 +162,10 @@ mod tests {
             ledgers.draw_serial(4, usage(1)),
             Err(LedgerFault::SerialsUsedUp)
         );
-        assert_eq!(rt; ledgers.enter_serial(4, 65_535), Ok(()));
+        assert_eq!(rt;
+            ledgers.close_serial(permit(4, 65_535), Closing::Entry),
+            Ok(())
+        );
         assert_eq!(rt;
             ledgers.draw_serial(4, usage(1)),
             Err(LedgerFault::SerialsUsedUp)
@@ -129,12 +177,12 @@ mod tests {
     fn permits_are_drawn_and_spent(rt: HostRuntime) -> Result<(), Fail> {
         let mut ledgers = Ledgers::new();
         let mut first = ledgers.draw(4, usage(1))?;
-        let number = answer_number(&ledgers.enter(&mut first));
+        let number = answer_number(&ledgers.close(&mut first, Closing::Entry));
         assert_eq!(rt; number, 0);
         let mut second = ledgers.draw(4, usage(1))?;
-        let serial = second.serial();
-        let _ = ledgers.lapse_owner(second.owner());
-        let number = answer_number(&ledgers.lapse(&mut second));
+        let PermitNumber { owner, serial } = second.number();
+        let _ = ledgers.lapse_owner(owner);
+        let number = answer_number(&ledgers.close(&mut second, Closing::Lapse));
         assert_eq!(rt; serial, 2);
         assert_eq!(rt; number, 18);
         assert_eq!(rt; ledgers.counts(4), Ok(counts(2, 1, 0, 1, 0)));
@@ -149,13 +197,19 @@ mod tests {
         };
         let enter = LedgerEvent::Of {
             owner: 4,
-            call: OwnerCall::Enter(2),
+            call: entry_of(2),
         };
         let end = LedgerEvent::SessionsEnd(SessionSet::empty().with(1));
         let mut ledgers = history(&[enter, draw, draw, enter, end, draw]);
         assert_eq!(rt; ledgers.counts(4), Ok(counts(3, 1, 0, 1, 1)));
-        assert_eq!(rt; draw_then_enter(&mut ledgers, 4, usage(2)), Ok(()));
+        assert_eq!(rt;
+            draw_then_close(&mut ledgers, 4, usage(2), Closing::Entry),
+            Ok(())
+        );
         assert_eq!(rt; ledgers.counts(4), Ok(counts(4, 2, 0, 1, 1)));
-        assert_eq!(rt; next_answer(&[draw, end], 4, OwnerCall::Enter(1)), 18);
+        assert_eq!(rt;
+            answer_number(&next_answer(&[draw, end], 4, entry_of(1))),
+            18
+        );
     }
 }

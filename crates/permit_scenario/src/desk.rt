@@ -3,13 +3,13 @@
 ghost use Rattle.std.specs.Prelude.{◌≡◌, true, false, IfOk};
 ghost use Rattle.permit_scenario.specs.Accounts.{adds_up};
 
-use crate::line::{Account, Act, Line};
-use bits::set::SessionSet;
-use ledger::counts::Counts;
-use ledger::fault::{LedgerFault, answer_number};
+use crate::line::{Account, Line};
+use arrayvec::ArrayVec;
+use bits::wide::SessionSet;
+use ledger::fault::LedgerFault;
 use ledger::ledgers::Ledgers;
 use ledger::permit::Permit;
-use ledger::place::Use;
+use ledger::place::{Closing, Use};
 
 // How many lines are written down.
 pub const LINES: usize = 32;
@@ -17,24 +17,20 @@ pub const LINES: usize = 32;
 #[derive(Drop)]
 pub(crate) struct Desk {
     ledgers: Ledgers,
-    pub(crate) lines: [Line; LINES],
-    written: usize,
+    pub(crate) lines: ArrayVec<Line, LINES>,
 }
 
 impl Desk {
     pub(crate) fn open() -> Desk {
         Desk {
             ledgers: Ledgers::new(),
-            lines: [Line::Blank; LINES],
-            written: 0,
+            lines: ArrayVec::new(),
         }
     }
 
+    // Where there is no room left, the line is not written down.
     fn write(&mut self, line: Line) {
-        if self.written < LINES {
-            self.lines[self.written] = line;
-            self.written += 1;
-        }
+        let _ = self.lines.try_push(line);
     }
 
     // Draws a permit for the pay line of an owner.
@@ -48,53 +44,46 @@ impl Desk {
             purpose: 2,
         };
         let drawn = self.ledgers.draw(owner, usage);
-        match &drawn {
-            Ok(permit) => self.write(Line::Drawn {
-                session,
-                owner,
-                serial: permit.serial(),
-            }),
-            Err(fault) => self.write(Line::NotDrawn {
-                session,
-                owner,
-                number: fault.number(),
-            }),
-        }
+        let answer = match &drawn {
+            Ok(permit) => Ok(permit.number().serial),
+            Err(fault) => Err(*fault),
+        };
+        self.write(Line::Drawn {
+            session,
+            owner,
+            answer,
+        });
         drawn
     }
 
     // Spends a permit. To enter it is to see the pay line, to hand it back is not to need it.
-    fn spend(&mut self, act: Act, permit: &mut Permit)
+    fn spend(&mut self, closing: Closing, permit: &mut Permit)
         requires { permit.old.spent ≡ false }
         ensures { permit.new.spent ≡ true }
     {
-        let answer = match act {
-            Act::Enter => self.ledgers.enter(permit),
-            Act::HandBack => self.ledgers.hand_back(permit),
-        };
+        let answer = self.ledgers.close(permit, closing);
         self.write(Line::Spent {
-            act,
-            owner: permit.owner(),
-            serial: permit.serial(),
-            number: answer_number(&answer),
+            number: permit.number(),
+            closing,
+            answer,
         });
     }
 
     // Spends what was drawn, if anything was.
-    pub(crate) fn settle(&mut self, act: Act, drawn: Result<Permit, LedgerFault>)
+    pub(crate) fn settle(&mut self, closing: Closing, drawn: Result<Permit, LedgerFault>)
         requires { IfOk drawn (λ p. p.spent ≡ false) }
     {
         if let Ok(mut permit) = drawn {
-            self.spend(act, &mut permit);
+            self.spend(closing, &mut permit);
         }
     }
 
     // Sees a pay line twice. Each time wants a permit of its own.
     pub(crate) fn see_twice(&mut self, session: u16, owner: u16) -> Result<(), LedgerFault> {
         let mut first = self.draw(session, owner)?;
-        self.spend(Act::Enter, &mut first);
+        self.spend(Closing::Entry, &mut first);
         let mut second = self.draw(session, owner)?;
-        self.spend(Act::Enter, &mut second);
+        self.spend(Closing::Entry, &mut second);
         Ok(())
     }
 
@@ -109,13 +98,7 @@ impl Desk {
         ensures owner { result.owner ≡ owner }
         ensures sum { adds_up result.counts ≡ true }
     {
-        let counts = self.ledgers.counts(owner).unwrap_or(Counts {
-            issued: 0,
-            entered: 0,
-            handed_back: 0,
-            lapsed: 0,
-            open: 0,
-        });
+        let counts = self.ledgers.counts(owner).unwrap_or_default();
         Account { owner, counts }
     }
 }

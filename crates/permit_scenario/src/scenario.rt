@@ -3,12 +3,14 @@ ghost use Rattle.std.specs.Prelude.{◌≡◌, true, [], ◌∷◌};
 ghost use Rattle.permit_scenario.specs.Accounts.{all_add_up, owners_of};
 
 use crate::desk::{Desk, LINES};
-use crate::line::{Account, Act, Line};
+use crate::line::{Account, Line};
+use arrayvec::ArrayVec;
+use ledger::place::Closing;
 
 // What was written down, and the accounts of the two owners in the end.
 #[derive(Drop)]
 pub struct Morning {
-    pub lines: [Line; LINES],
+    pub lines: ArrayVec<Line, LINES>,
     pub accounts: [Account; 2],
 }
 
@@ -34,27 +36,27 @@ pub fn run() -> Morning
     let other = desk.draw(2, 5);
 
     // A place is free again once a permit is entered or handed back, and the serials go on.
-    desk.settle(Act::Enter, first);
-    desk.settle(Act::HandBack, second);
+    desk.settle(Closing::Entry, first);
+    desk.settle(Closing::HandingBack, second);
     let tenth = desk.draw(1, 4);
-    desk.settle(Act::Enter, third);
-    desk.settle(Act::HandBack, seventh);
+    desk.settle(Closing::Entry, third);
+    desk.settle(Closing::HandingBack, seventh);
 
     // When a session ends, its open permits lapse. They are spent all the same, and refused.
     desk.end(2);
-    desk.settle(Act::Enter, fourth);
-    desk.settle(Act::Enter, other);
-    desk.settle(Act::HandBack, fifth);
-    desk.settle(Act::HandBack, sixth);
+    desk.settle(Closing::Entry, fourth);
+    desk.settle(Closing::Entry, other);
+    desk.settle(Closing::HandingBack, fifth);
+    desk.settle(Closing::HandingBack, sixth);
 
     // The other session goes on.
-    desk.settle(Act::Enter, eighth);
-    desk.settle(Act::Enter, ninth);
-    desk.settle(Act::Enter, tenth);
+    desk.settle(Closing::Entry, eighth);
+    desk.settle(Closing::Entry, ninth);
+    desk.settle(Closing::Entry, tenth);
     let _ = desk.see_twice(1, 5);
 
     Morning {
-        lines: desk.lines,
         accounts: [desk.account(4), desk.account(5)],
+        lines: desk.lines,
     }
 }

@@ -1,10 +1,9 @@
 use Rattle.std.proofs.Common.{ap}
 use Rattle.ledger.specs.Answers.{Answer}
 use Rattle.ledger.specs.Table.{ledgers_of}
-use Rattle.ledger.specs.declared.place.Closing.TheVariants.{Entry}
 use Rattle.ledger.proofs.Tables.{table_sound}
 use Rattle.ledger_laws.proofs.Once.{once_answer, left_at_once}
-use Rattle.ledger_laws.proofs.draws.draw_then_enter.Goals as goal
+use Rattle.ledger_laws.proofs.draws.draw_then_close.Goals as goal
 
 pub returns : goal.returns
 returns c =
@@ -17,6 +16,6 @@ returns c =
     let accepted = ap (λ (a : Answer). a.number) drew.answer in
     let permit = c.in_ok-permit.permit in
     record {
-      answer = once_answer Entry o u f g sound accepted c.draw.ensures.left permit.owner permit.serial drew.serial.0 drew.serial.1 _ assumption;
-      left = left_at_once Entry o u f g sound accepted c.draw.ensures.left permit.owner permit.serial drew.serial.0 drew.serial.1 _ assumption;
+      answer = once_answer c.args.closing o u f g sound accepted c.draw.ensures.left permit.number.owner permit.number.serial drew.serial.0 drew.serial.1 _ assumption;
+      left = left_at_once c.args.closing o u f g sound accepted c.draw.ensures.left permit.number.owner permit.number.serial drew.serial.0 drew.serial.1 _ assumption;
     }

@@ -1,9 +1,7 @@
-use Rattle.std.proofs.Common.{List, [], reverse, sym, subst}
-use Rattle.std.proofs.lemmas.List.{take_all}
+use Rattle.std.proofs.Common.{[], sym, subst}
 use Rattle.ledger.specs.Table.{Table, ledgers_of}
 use Rattle.ledger.proofs.Tables.{table_sound}
 use Rattle.ledger_laws.specs.Fates.{account, Accounted}
-use Rattle.ledger_laws.specs.declared.event.LedgerEvent.{LedgerEvent}
 use Rattle.ledger_laws.proofs.Histories.{none_accounted, accounted_more}
 use Rattle.ledger_laws.proofs.history.history.Goals as goal
 
@@ -15,9 +13,4 @@ loop-event-preserved c = λ o lt.
     accounted_more c.args.events.now c.loop-event.event-index _ (ledgers_of c.loop-event.ledgers) (ledgers_of c.apply.new.ledgers) c.loop-event-test.true c.apply.ensures.left o lt
     (table_sound c.loop-event.ledgers.all o)
     (table_sound c.apply.new.ledgers.all o)
-    (c.loop-event.invariant o lt)
-
-pub returns : goal.returns
-returns c = λ o lt.
-    subst (λ (xs : List LedgerEvent). Accounted (account o (reverse xs)) (ledgers_of c.loop-event.ledgers o)) (take_all c.loop-event.event-index c.args.events.now c.loop-event-test.false)
     (c.loop-event.invariant o lt)

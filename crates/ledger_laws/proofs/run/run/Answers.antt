@@ -1,14 +1,9 @@
-use Rattle.std.proofs.Common.{List, get_or, sym, refl, ap, ◌∙◌, arith}
-use Rattle.std.proofs.lemmas.List.{take_all}
+use Rattle.std.proofs.Common.{get_or, sym, ap, ◌∙◌, arith}
 use Rattle.std.proofs.lemmas.List.Sums.{fold_more}
 use Rattle.ledger.specs.Table.{ledgers_of}
-use Rattle.ledger_laws.specs.Events.{event_left, all_left}
-use Rattle.ledger_laws.specs.declared.event.LedgerEvent.{LedgerEvent}
+use Rattle.ledger_laws.specs.Events.{event_left}
 use Rattle.ledger_laws.proofs.Histories.{grows_more}
 use Rattle.ledger_laws.proofs.run.run.Goals as goal
-
-pub loop-event-init : goal.loop-event-init
-loop-event-init c = (refl, λ o. omega arith)
 
 pub loop-event-preserved : goal.loop-event-preserved
 loop-event-preserved c =
@@ -20,11 +15,3 @@ loop-event-preserved c =
       next ∙ ap (event_left (get_or es i _)) c.loop-event.invariant.0 ∙ sym (fold_more (λ g e. event_left e g) (ledgers_of c.args.ledgers.now) es i _ lt),
       λ o. omega (arith, grows_more es i _ f (ledgers_of c.apply.new.ledgers) lt next o, c.loop-event.invariant.1 o),
     )
-
-pub returns : goal.returns
-returns c =
-    let es = c.args.events.now in
-    record {
-      left = c.loop-event.invariant.0 ∙ ap (λ (xs : List LedgerEvent). all_left xs (ledgers_of c.args.ledgers.now)) (take_all c.loop-event.event-index es c.loop-event-test.false);
-      grows = c.loop-event.invariant.1;
-    }

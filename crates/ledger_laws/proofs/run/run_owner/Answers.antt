@@ -1,14 +1,9 @@
-use Rattle.std.proofs.Common.{List, get_or, sym, refl, ap, ◌∙◌}
-use Rattle.std.proofs.lemmas.List.{take_all}
+use Rattle.std.proofs.Common.{get_or, sym, ap, ◌∙◌}
 use Rattle.std.proofs.lemmas.List.Sums.{fold_more}
 use Rattle.ledger.specs.Table.{Table, ledgers_of}
-use Rattle.ledger_laws.specs.Events.{call_left, calls_left}
-use Rattle.ledger_laws.specs.declared.event.OwnerCall.{OwnerCall}
+use Rattle.ledger_laws.specs.Events.{call_left}
 use Rattle.ledger_laws.proofs.Owners.{call_elsewhere}
 use Rattle.ledger_laws.proofs.run.run_owner.Goals as goal
-
-pub loop-made-init : goal.loop-made-init
-loop-made-init c = (refl, λ k other. refl)
 
 pub loop-made-preserved : goal.loop-made-preserved
 loop-made-preserved c =
@@ -20,10 +15,3 @@ loop-made-preserved c =
       λ k other.
           ap (λ (f : Table). f k) next ∙ call_elsewhere o (get_or calls i _) (ledgers_of c.loop-made.ledgers) k other ∙ c.loop-made.invariant.1 k other,
     )
-
-pub returns : goal.returns
-returns c =
-    record {
-      left = c.loop-made.invariant.0 ∙ ap (λ (xs : List OwnerCall). calls_left c.args.owner xs (ledgers_of c.args.ledgers.now)) (take_all c.loop-made.made-index c.args.calls.now c.loop-made-test.false);
-      others = c.loop-made.invariant.1;
-    }

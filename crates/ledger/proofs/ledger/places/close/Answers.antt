@@ -1,19 +1,11 @@
-use Rattle.std.proofs.Common.{◌≡◌, ℕ, ◌+◌, ◌<◌, ◌≤◌, List, [], ◌++◌, map, length, take, drop, count_by, sym, ap, ◌∙◌, append-nil, arith, length-take}
+use Rattle.std.proofs.Common.{◌≡◌, ℕ, ◌+◌, ◌<◌, List, [], ◌++◌, map, length, take, drop, count_by, sym, ap, ◌∙◌, append-nil, arith}
 use Rattle.std.proofs.lemmas.List.{take_all, drop_all}
-use Rattle.std.proofs.lemmas.List.Sums.{count_by-le-length}
 use Rattle.ledger.specs.Places.{meets, cleared, permits_of}
 use Rattle.ledger.specs.declared.place.Place.{Place}
 use Rattle.ledger.proofs.Closings.{closed_opens}
 use Rattle.ledger.proofs.Walks.{cleared_next, count_yes, count_no}
 use Rattle.ledger.proofs.ledger.places.close.Goals as goal
 use Rattle.ledger.proofs.ledger.places.close.Goals.{then-close, else-close}
-
-pub overflow_add-closed : goal.overflow_add-closed
-overflow_add-closed c =
-    let these = permits_of c.args.which in
-    let front = take c.loop-place.place-index c.args.places.now in
-    let few : c.loop-place.closed ≤ 8 = omega (arith, c.loop-place.invariant.0, count_by-le-length (meets these) front, length-take c.loop-place.place-index c.args.places.now) in
-    omega arith
 
 pub loop-place-preserved : goal.loop-place-preserved
 loop-place-preserved c =

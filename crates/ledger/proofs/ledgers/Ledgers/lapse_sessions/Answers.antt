@@ -7,9 +7,6 @@ use Rattle.ledger.specs.declared.place.Which.TheVariants.{Sessions}
 use Rattle.ledger.proofs.Tables.{table_again, table_each}
 use Rattle.ledger.proofs.ledgers.Ledgers.lapse_sessions.Goals as goal
 
-pub loop-ledger-init : goal.loop-ledger-init
-loop-ledger-init c = (refl, λ h. absurd (omega arith), refl)
-
 pub loop-ledger-preserved : goal.loop-ledger-preserved
 loop-ledger-preserved c =
     let inv = c.loop-ledger.invariant in

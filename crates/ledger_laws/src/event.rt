@@ -1,4 +1,4 @@
-// The events that change the ledgers.
+// The events that change the ledgers, as values: the laws are about every list of them.
 use bits::wide::SessionSet;
 use ledger::place::{Closing, Use};
 

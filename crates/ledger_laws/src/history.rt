@@ -9,7 +9,8 @@ use crate::run::{apply, call};
 use ledger::fault::LedgerFault;
 use ledger::ledgers::Ledgers;
 
-// Lets the events happen, in their order. The ledger of every owner is then as the account of the events has it.
+// Lets the events happen, in their order. The ledger of every owner is then as the account of the events has it. A loop of
+// its own and not `run`: that the account holds is proved event by event, from what the type tells of the ledgers there.
 pub fn history(events: &[LedgerEvent]) -> Ledgers
     ensures { (o : ℕ) → o < 128 → Accounted (account o (reverse events.now)) (ledgers_of result o) }
 {

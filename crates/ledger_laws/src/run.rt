@@ -47,7 +47,8 @@ pub fn run(ledgers: &mut Ledgers, events: &[LedgerEvent])
     }
 }
 
-// Makes calls for one owner, in their order. The ledger of every other owner is as it was.
+// Makes calls for one owner, in their order. The ledger of every other owner is as it was. A loop of its own and not a run
+// over these calls as events, since such a list would need memory.
 pub fn run_owner(ledgers: &mut Ledgers, owner: u16, calls: &[OwnerCall])
     ensures left { ledgers_of ledgers.new ≡ calls_left owner calls.now (ledgers_of ledgers.old) }
     ensures others { (k : ℕ) → (k ≢ owner) → ledgers_of ledgers.new k ≡ ledgers_of ledgers.old k }

@@ -10,7 +10,7 @@ use crate::fault::LedgerFault;
 use crate::ledger::Ledger;
 use crate::permit::PermitNumber;
 use crate::place::{Closing, Use, Which};
-use bits::wide::SessionSet;
+use bits::set::SessionSet;
 
 // One ledger for each owner number.
 #[derive(Drop)]

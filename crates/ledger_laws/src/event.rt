@@ -1,5 +1,5 @@
 // The events that change the ledgers, as values: the laws are about every list of them.
-use bits::wide::SessionSet;
+use bits::set::SessionSet;
 use ledger::place::{Closing, Use};
 
 // What is done for one owner.

@@ -5,7 +5,7 @@ ghost use Rattle.permit_scenario.specs.Accounts.{adds_up};
 
 use crate::line::{Account, Line};
 use arrayvec::ArrayVec;
-use bits::wide::SessionSet;
+use bits::set::SessionSet;
 use ledger::fault::LedgerFault;
 use ledger::ledgers::Ledgers;
 use ledger::permit::Permit;

@@ -1,5 +1,5 @@
 -- A reader finds exactly the records that stand in the book.
-use Rattle.std.proofs.Common.{◌≡◌, ℕ, suc, ◌+◌, ◌-◌, ◌*◌, ◌<◌, ◌≤◌, List, ◌∷◌, length, get_or, take, drop, sym, refl, ap, ◌∙◌, arith}
+use Rattle.std.proofs.Common.{◌≡◌, ℕ, suc, ◌+◌, ◌*◌, ◌<◌, ◌≤◌, List, ◌∷◌, length, get_or, take, drop, sym, refl, ap, ◌∙◌, arith}
 use Rattle.std.proofs.lemmas.List.{get_or-take, get_or-drop, drop-take, drop-drop}
 use Rattle.std.proofs.lemmas.Grind.{common_steps}
 use Rattle.calls.specs.Layout.{known, field_count}
@@ -8,6 +8,13 @@ use Rattle.book.specs.Reading.{Found, found, fields_at, reading}
 use Rattle.book.specs.Framing.{Stands, Framed}
 use Rattle.book.proofs.Questions.{Passes, Finds, passes_found, found_passes}
 use Rattle.book.proofs.Words.{Bytes, bytes_take, bytes_drop, words_of, length_word_bytes, length_words_of, word_back, bytes_of_words}
+
+-- the field bytes of a record of n fields
+fields_part : (bs : List ℕ) (at n : ℕ) → word bs at ≡ 6 + 2 * n → fields_at bs at ≡ drop 6 (take (6 + 2 * n) (drop at bs))
+fields_part bs at n sized =
+    ap (λ m. take m (drop (at + 6) bs)) (omega (arith, sized))
+    ∙ ap (take (2 * n)) (sym (drop-drop 6 at bs))
+    ∙ sym (drop-take 6 (2 * n) (drop at bs))
 
 module _ {bs : List ℕ} {at kind answer : ℕ} {fields : List ℕ} (s : Stands bs at kind answer fields) where
   byte : (j i : ℕ) → j ≡ at + i → i < 6 → get_or bs j 0 ≡ get_or (record_bytes kind answer fields) i 0
@@ -28,25 +35,11 @@ module _ {bs : List ℕ} {at kind answer : ℕ} {fields : List ℕ} (s : Stands 
   fits = grind (arith, common_steps, s.bytes, length_word_bytes fields)
 
   is_fields : fields_at bs at ≡ word_bytes fields
-  is_fields =
-      let six : word bs at - 6 ≡ 2 * length fields = omega (arith, sized) in
-      ap (λ n. take n (drop (at + 6) bs)) six
-      ∙ ap (take (2 * length fields)) (sym (drop-drop 6 at bs))
-      ∙ sym (drop-take 6 (2 * length fields) (drop at bs))
-      ∙ ap (drop 6) s.bytes
+  is_fields = fields_part bs at (length fields) sized ∙ ap (drop 6) s.bytes
 
   pub stands_found : length bs ≤ 65536 → reading bs at ≡ found kind (word_bytes fields)
   stands_found small =
-      let passes : Passes bs at =
-      record {
-        small = small;
-        within = omega (arith, fits);
-        long = omega (arith, sized);
-        fits = omega (arith, fits, sized);
-        kind_known = ap known is_kind ∙ s.kind_known;
-        counted = sized ∙ ap (λ n. 6 + 2 * n) s.counted ∙ ap (λ k. 6 + 2 * field_count k) (sym is_kind);
-      }
-      in
+      let passes : Passes bs at = grind (arith, fits, sized, is_kind, s.kind_known, s.counted) in
       passes_found passes ∙ (λ i. found (is_kind i) (is_fields i))
 
 -- a record that a reading found stands there, with the words that its bytes make
@@ -85,8 +78,7 @@ module _ {bs : List ℕ} {at kind : ℕ} {bytes : List ℕ} (small : Bytes bs) (
       let all : length fields ≡ field_count kind = length_words_of (field_count kind) rest in
       let whole = bytes_of_words (suc (suc (suc (field_count kind)))) part (omega (arith, part_long)) part_bytes in
       let header : word part 0 ≡ 6 + 2 * length fields = first ∙ ap (λ m. 6 + 2 * m) (sym all) in
-      let is-part : part ≡ record_bytes kind answer fields = sym whole ∙ (λ i. word_bytes (header i ∷ second i ∷ answer ∷ fields)) in
-      let six : word bs at - 6 ≡ 2 * field_count kind = omega (arith, counted) in (
+      let is-part : part ≡ record_bytes kind answer fields = sym whole ∙ (λ i. word_bytes (header i ∷ second i ∷ answer ∷ fields)) in (
         answer,
         fields,
         record {
@@ -94,11 +86,7 @@ module _ {bs : List ℕ} {at kind : ℕ} {bytes : List ℕ} (small : Bytes bs) (
           counted = all;
           bytes = ap (λ m. take (6 + 2 * m) (drop at bs)) all ∙ is-part;
         },
-        sym f.fields
-            ∙ ap (λ m. take m (drop (at + 6) bs)) six
-            ∙ ap (take (2 * field_count kind)) (sym (drop-drop 6 at bs))
-            ∙ sym (drop-take 6 (2 * field_count kind) (drop at bs))
-            ∙ ap (drop 6) is-part,
+        sym f.fields ∙ fields_part bs at (field_count kind) counted ∙ ap (drop 6) is-part,
       )
 
 pub framed : {bs : List ℕ} {at : ℕ} {r : Found} → Bytes bs → r ≡ reading bs at → Framed bs at r

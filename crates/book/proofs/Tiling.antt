@@ -1,11 +1,11 @@
 -- Entries that tile a book: one more at the end, the first one taken off, and that there is one way only.
-use Rattle.std.proofs.Common.{◌≡◌, ℕ, ◌+◌, ◌*◌, ◌/◌, ◌%◌, ◌≤◌, true, false, List, [], ◌∷◌, ◌++◌, length, get_or, take, drop, sym, refl, ap, ◌∙◌, subst, ⊎_elim, append_assoc, append-nil, arith, length-append, take-append-drop}
+use Rattle.std.proofs.Common.{◌≡◌, ℕ, ◌+◌, ◌*◌, ◌≤◌, true, false, List, [], ◌∷◌, ◌++◌, length, take, drop, sym, refl, ap, ◌∙◌, subst, ⊎_elim, append_assoc, append-nil, arith, length-append, take-append-drop}
 use Rattle.std.proofs.lemmas.List.{drop-drop}
 use Rattle.std.proofs.lemmas.Bool.{both_ways, cases_lt}
 use Rattle.std.proofs.lemmas.Grind.{common_steps}
-use Rattle.calls.specs.Layout.{layout, laid, family_of}
+use Rattle.calls.specs.Layout.{layout, family_of}
 use Rattle.calls.proofs.Told.{layout_counts, same_command}
-use Rattle.book.specs.Format.{word_bytes}
+use Rattle.book.specs.Format.{word, word_bytes}
 use Rattle.book.specs.Reading.{found, reading, is_record}
 use Rattle.book.specs.Framing.{Stands}
 use Rattle.book.specs.Tiling.{Entry, entry_bytes, book_bytes, Tiles, Stops, counted, tallied}
@@ -68,15 +68,10 @@ module _ (bs : List ℕ) where
       let both : found k.kind (word_bytes k.fields) ≡ found l.kind (word_bytes l.fields) =
       sym (stands_found (entered_stands bs at e is-e) small) ∙ stands_found (entered_stands bs at f is_f) small
       in
-      let kinds : k.kind ≡ l.kind = cc in
-      let bytes : word_bytes k.fields ≡ word_bytes l.fields = cc in
-      let words : k.fields ≡ l.fields = same_words k.fields l.fields bytes in
-      let sizes : size_of e ≡ size_of f = ap (λ ws. 6 + 2 * length ws) words in
-      let all : entry_bytes e ≡ entry_bytes f = sym is-e ∙ ap (λ n. take n (drop at bs)) sizes ∙ is_f in
-      let low : e.answer % 256 ≡ f.answer % 256 = ap (λ b. get_or b 4 0) all in
-      let high : e.answer / 256 ≡ f.answer / 256 = ap (λ b. get_or b 5 0) all in
-      let answers : e.answer ≡ f.answer = sym (word_back e.answer) ∙ (λ i. low i + 256 * high i) ∙ word_back f.answer in
-      let commands : e.command ≡ f.command = same_command e.command f.command (λ i. laid (kinds i) (words i)) in
+      let words : k.fields ≡ l.fields = same_words k.fields l.fields cc in
+      let commands : e.command ≡ f.command = same_command e.command f.command (grind (arith, both, words)) in
+      let all : entry_bytes e ≡ entry_bytes f = grind (arith, words, is-e, is_f) in
+      let answers : e.answer ≡ f.answer = grind (arith, ap (λ b. word b 4) all, word_back e.answer, word_back f.answer) in
       λ i. record { command = commands i; answer = answers i }
 
   -- where entries begin a record stands

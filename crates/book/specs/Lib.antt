@@ -5,3 +5,4 @@ pub mod Handed
 pub mod Framing
 pub mod Commanded
 pub mod Tiling
+pub mod Walking

@@ -4,5 +4,6 @@
 pub mod answer;
 pub mod reader;
 pub mod record;
+pub mod records;
 pub mod survey;
 pub mod types;

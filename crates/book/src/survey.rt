@@ -2,8 +2,8 @@
 ghost use Rattle.std.specs.Prelude.{◌≡◌, ℕ, ◌+◌, ◌^◌, ◌<◌};
 ghost use Rattle.book.specs.Tiling.{Surveyed, counted};
 
-use crate::reader::read;
-use crate::types::{Damage, Survey, Tally};
+use crate::records::Records;
+use crate::types::{Survey, Tally};
 use calls::command::Family;
 
 impl Tally {
@@ -25,23 +25,13 @@ pub fn survey(book: &[u8]) -> Survey
     ensures { Surveyed book.now result }
 {
     let mut tally = Tally::default();
-    // The place of the next record, which only the length of this one tells: no index is counted. An iterator over the
-    // records would have to hand out where and why it stopped as well.
-    let mut at = 0;
-    'records: loop {
-        match read(book, at) {
-            Ok(Some(record)) => {
-                tally.count(record.command().unwrap().family());
-                at += record.size();
-            }
-            Ok(None) => return Survey {
-                tally,
-                ending: Ok(at),
-            },
-            Err(fault) => return Survey {
-                tally,
-                ending: Err(Damage { place: at, fault }),
-            },
-        }
+    let mut records = Records::new(book);
+    // step by step, since of a `for` over `&mut records` nobody knows where it stopped
+    while let Some(record) = records.next() {
+        tally.count(record.command().unwrap().family());
+    }
+    Survey {
+        tally,
+        ending: records.ending(),
     }
 }

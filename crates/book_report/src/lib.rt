@@ -5,7 +5,8 @@ ghost use Rattle.std.specs.Prelude.{◌≡◌, ℕ, ◌++◌, length, drop, IfOk
 ghost use Rattle.lines.specs.Lines.{text};
 ghost use Rattle.book_report.specs.Report.{site_of, sentence, count_lines, closing, Listed, Reported};
 
-use book::reader::{HEADER, MAX_LEN, read, word_at};
+use book::reader::{HEADER, word_at};
+use book::records::Records;
 use book::survey::survey;
 use book::types::{Ending, Fault, Tally};
 use calls::command::Family;
@@ -89,11 +90,11 @@ fn record_lines(heap: Global, book: &[u8]) -> Result<Vec<u8>, AllocError>
     ensures { IfOk result (λ out. Listed book.now out.items) }
 {
     let mut out = Vec::new(heap);
-    // the place of the next record, which only the length of this one tells: no index is counted
-    let mut at = 0;
-    while let Ok(Some(record)) = read(book, at) {
-        put_line(&mut out, command_line(at, record.command().unwrap()))?;
-        at += record.size();
+    for record in Records::new(book) {
+        put_line(
+            &mut out,
+            command_line(record.place(), record.command().unwrap()),
+        )?;
     }
     Ok(out)
 }

@@ -1,4 +1,4 @@
-use Rattle.std.proofs.Common.{◌≡◌, ◌-◌, ◌≤◌, List, length, vec_items}
+use Rattle.std.proofs.Common.{◌≡◌, List, vec_items}
 use Rattle.book.specs.Tiling.{Entry}
 use Rattle.book.proofs.Surveyed.{Walked}
 use Rattle.book_report.specs.Report.{record_lines}
@@ -6,9 +6,4 @@ use Rattle.book_report.proofs.record_lines.Given as goal
 
 -- the reading has come past some entries, and their lines are written
 abbrev pub invariant-loop-record : goal.invariant-loop-record
-invariant-loop-record l =
-    (l.at ≤ length l.book)
-    × ((es : List Entry) × Walked l.book l.at es × (vec_items l.out ≡ record_lines 0 es))
-
-abbrev pub decreases-loop-record : goal.decreases-loop-record
-decreases-loop-record l = length l.initial.book - l.at
+invariant-loop-record l = (es : List Entry) × Walked l.book l.record-iterator es × (vec_items l.out ≡ record_lines 0 es)

@@ -44,7 +44,8 @@ const FIELD_COUNTS: [usize; 31] = [
     3, // 30 consent
 ];
 
-// How many fields a record of this kind has; 0 where there is no such kind.
+// How many fields a record of this kind has; 0 where there is no such kind, so that every record has a size, also one
+// that a caller put together.
 pub fn fields_of(kind: u16) -> usize
     ensures value { result ≡ field_count kind }
     ensures few { result ≤ 4 }

@@ -5,7 +5,8 @@ ghost use Rattle.calls.specs.Name.{command_name};
 use crate::command::{Command, Consent, Directory, Question, Session};
 
 impl Command {
-    // A text and no `Display`, since what a formatter promises holds only where it succeeds, and a line cannot fail.
+    // A text and no `Display`: the lines put its bytes into their buffers, and what a formatter promises holds only
+    // where it succeeds.
     pub fn name(self) -> &'static str
         ensures value { result.now ≡ command_name self }
         ensures short { length result.now ≤ 20 }

@@ -1,6 +1,6 @@
-// The output lines: one call makes each, and says exactly which bytes it holds. The parts of a line, and the names in
-// it, are bytes that are put one after another and no `Display`: what `write!` promises holds only where it succeeds,
-// nothing says that it does, and a line cannot fail.
+// The output lines: one call makes each, and says exactly which bytes it holds. What is fixed in a line, its names too,
+// are byte strings put into its buffer and no `Display`: that is a rule here, and `write!` promises its text only where
+// it succeeds, while a line cannot fail.
 #![tactic(auto)]
 
 ghost use Rattle.std.specs.Prelude.{◌≡◌, ℕ, ◌+◌, ◌≤◌, [], ◌++◌, length, decimal};

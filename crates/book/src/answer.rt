@@ -44,7 +44,8 @@ fn put_answer(part: &mut [u8], answer: u16)
     part[5] = high;
 }
 
-// Answers the record at this place. False, and no byte changed, where no record stands there.
+// Answers the record at this place. False, and no byte changed, where no record stands there: a yes or a no, with no
+// value and only one reason, so no `Result`.
 pub fn answer_at(book: &mut [u8], at: usize, outcome: Outcome) -> bool
     ensures value { result ≡ is_record (reading book.old at) }
     ensures after { book.new ≡ (if is_record (reading book.old at) then answered book.old at (answer_word outcome) else book.old) }

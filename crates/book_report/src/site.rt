@@ -8,7 +8,7 @@ pub struct Site {
     // where the record begins, and how many bytes remain from there on
     pub place: usize,
     pub left: usize,
-    // the length and the kind that the record gives, with 0 for each byte that is not there
+    // the length and the kind that the record gives, with 0 for each byte that is not there, as the format's words have
     pub said: u16,
     pub kind: u16,
     // how many bytes a record of that kind has

@@ -37,6 +37,7 @@ impl Encoded {
     }
 }
 
+// An `encode` for each family, of which no two arms are alike: in one match (tried) each pattern would name two enums.
 impl Directory {
     fn encode(self) -> Encoded
         ensures { written result ≡ directory_layout self }

@@ -21,7 +21,7 @@ abbrev pub names_grant : ℕ → ℕ → Thing → Bool
 names_grant object role (Role r) = r == role
 names_grant object role (Object b) = b == object
 names_grant object role (Owner o) = false
-names_grant object role (Pair q t) = false
+names_grant object role (Pair p) = false
 
 abbrev pub names_plain : PlainGrant → Thing → Bool
 names_plain x thing = names_grant x.object x.role thing
@@ -34,4 +34,4 @@ abbrev pub names_consent : Consent → Thing → Bool
 names_consent x (Role r) = false
 names_consent x (Object b) = false
 names_consent x (Owner o) = x.owner == o
-names_consent x (Pair q t) = x.purpose == q && x.data_type == t
+names_consent x (Pair p) = x.purpose == p.purpose && x.data_type == p.data_type

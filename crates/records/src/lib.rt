@@ -3,6 +3,7 @@
 
 pub mod kinds;
 pub mod methods;
+pub mod reads;
 pub mod record;
 mod rows;
 pub mod set;

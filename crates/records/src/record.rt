@@ -1,32 +1,28 @@
 // What a set has to know of its records.
-ghost use Rattle.std.specs.Prelude.{◌≡◌, Bool, true};
+ghost use Rattle.std.specs.Prelude.{◌≡◌, Bool};
 ghost use Rattle.records.specs.declared.record.Thing.{Thing};
 
+// A purpose and a data type.
+#[derive(Clone, Copy, PartialEq, Eq, Debug)]
+pub struct Pair {
+    pub purpose: u16,
+    pub data_type: u16,
+}
+
 // What a record may name, and what a set can strike records by.
-#[derive(Clone, Copy)]
+#[derive(Clone, Copy, PartialEq, Eq, Debug)]
 pub enum Thing {
     Role(u16),
     Object(u16),
     Owner(u16),
-    Pair { purpose: u16, data_type: u16 },
+    Pair(Pair),
 }
 
-// A record tells whether it is the same as another, and whether it names a thing. A set uses of sameness only that it
-// is an equivalence.
-pub trait Record {
-    ghost equal: { Self → Self → Bool };
-
+// A record tells whether it equals another, and whether it names a thing. A set uses of equality only that it is an
+// equivalence.
+pub trait Record: Eq {
     ghost naming: { Self → Thing → Bool };
-
-    fn same(&self, other: &Self) -> bool
-        ensures { result ≡ equal self.now other.now };
 
     fn names(&self, thing: Thing) -> bool
         ensures { result ≡ naming self.now thing };
-
-    ghost reflexive: { (x : Self) → equal x x ≡ true };
-
-    ghost symmetric: { (x y : Self) → equal x y ≡ true → equal y x ≡ true };
-
-    ghost transitive: { (x y z : Self) → equal x y ≡ true → equal y z ≡ true → equal x z ≡ true };
 }

@@ -1,68 +1,20 @@
-// Passes over a slice of records.
-ghost use Rattle.std.specs.Prelude.{◌≡◌, ◌≤◌, Bool, not, length, take, filter};
-ghost use Rattle.records.specs.Lists.{holds};
+// A pass over a slice of records.
+ghost use Rattle.std.specs.Prelude.{◌≡◌, ◌≤◌, Bool, length, take, filter};
+ghost use Rattle.records.specs.Lists.{Tests};
 
-use crate::record::{Record, Thing};
-
-// Whether some record is the same as this one.
-#[tactic(auto, using(crate::proofs::Sets::some_at))]
-pub(crate) fn any_same<T: Record>(rows: &[T], item: &T) -> bool
-    ensures { result ≡ holds T.Record.equal rows.now item.now }
-{
-    for row in rows {
-        if row.same(item) {
-            return true;
-        }
-    }
-    false
-}
-
-// Which records a pass keeps.
-pub(crate) trait Test<T> {
-    ghost keeps: { Self → T → Bool };
-
-    fn keep(&self, row: &T) -> bool
-        ensures { result ≡ keeps self.now row.now };
-}
-
-// All but those that are the same as one record.
-#[derive(Drop)]
-pub(crate) struct Others<T> {
-    pub(crate) item: T,
-}
-
-impl<T: Record> Test<T> for Others<T> {
-    ghost keeps = { λ s y. not (T.Record.equal y s.item) };
-
-    fn keep(&self, row: &T) -> bool {
-        !row.same(&self.item)
-    }
-}
-
-// All but those that name one thing.
-#[derive(Drop)]
-pub(crate) struct Unnamed {
-    pub(crate) thing: Thing,
-}
-
-impl<T: Record> Test<T> for Unnamed {
-    ghost keeps = { λ s y. not (T.Record.naming y s.thing) };
-
-    fn keep(&self, row: &T) -> bool {
-        !row.names(self.thing)
-    }
-}
-
-// Moves the records that pass the test to the front, in their order, and says how many they are.
-pub(crate) fn sweep<T: Copy, P: Test<T>>(rows: &mut [T], test: &P) -> usize
-    ensures within { result ≤ length rows.old }
-    ensures kept { take result rows.new ≡ filter (P.Test.keeps test.now) rows.old }
+// Moves those of the first `count` records that pass the test to the front, in their order, and says how many they are.
+// A slice has no `retain`; this reads at one place and writes at another, and so goes by index.
+pub(crate) fn sweep<T: Copy, F: Fn(&T) -> bool>(places: &mut [T], count: usize, keep: F) -> usize
+    requires callable { F.IsAlwaysCallable keep }
+    requires within { count ≤ length places.old }
+    ensures within { result ≤ count }
+    ensures kept { (keeps : T → Bool) → Tests F.Fn keep keeps → take result places.new ≡ filter keeps (take count places.old) }
 {
     let mut n = 0;
-    for i in 0..rows.len() {
-        let row = rows[i];
-        if test.keep(&row) {
-            rows[n] = row;
+    for i in 0..count {
+        let record = places[i];
+        if keep(&record) {
+            places[n] = record;
             n += 1;
         }
     }

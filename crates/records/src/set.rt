@@ -1,16 +1,24 @@
+// Records without repeats, in a slice that the caller provides.
+ghost use Rattle.std.specs.Prelude.{◌≡◌, ◌≤◌, min, true, length, take};
+ghost use Rattle.records.specs.Lists.{apart};
+
+use crate::record::Record;
+
 // Why a record is not added or removed.
 #[derive(Clone, Copy, PartialEq, Eq, Debug)]
 pub enum SetFault {
-    AlreadyThere,
-    NotThere,
-    NoPlace,
+    AlreadyThere = 9,
+    NotThere = 10,
+    NoPlace = 13,
 }
 
-// Records without repeats in the first places of a slice that the caller provides, of which at most `cap` are used.
-// Places past the count are free.
+// The first `count` places of a slice that the caller provides, of which at most `cap` are used. Places past the count
+// are free.
 #[derive(Drop)]
-pub struct RecordSet<'a, T> {
+pub struct RecordSet<'a, T: Record> {
     pub(crate) places: &'a mut [T],
     pub(crate) cap: usize,
     pub(crate) count: usize,
+    ghost within: { count ≤ min (length places.now) cap },
+    ghost alone: { apart T.eq (take count places.now) ≡ true },
 }

@@ -1,27 +1,23 @@
-use Rattle.std.proofs.Common.{◌≡◌, min, true, false, ltb, [], ◌∷◌, ◌++◌, length, sym, ap, ◌∙◌, subst, arith, length-set}
+use Rattle.std.proofs.Common.{◌≡◌, ◌+◌, [], ◌∷◌, ◌++◌, take, set, sym, ap, ◌∙◌, subst, arith, length-set}
 use Rattle.std.proofs.lemmas.List.{take_more_set}
-use Rattle.std.proofs.lemmas.Bool.{cond-true, cond-false, lt-ltb}
-use Rattle.records.specs.Lists.{holds, apart}
-use Rattle.records.specs.Sets.{records, room, Gains}
+use Rattle.records.specs.Lists.{apart}
+use Rattle.records.specs.Sets.{records, Gains}
 use Rattle.records.proofs.Sets.{apart_push, gains}
 use Rattle.records.proofs.set.RecordSet.add.Goals as goal
 
-pub returns : goal.returns
-returns g c =
-    let equal = g.T.Record.equal in
-    let laws = g.met.T.Record in
+pub invariant_of-self : goal.invariant_of-self
+invariant_of-self g c =
     let s = c.args.self.now in
-    let places = s.places.now in
-    let xs = records s in
     let x = c.args.item in
-    let at = c.len-at.result in
-    let new : holds equal xs x ≡ false = sym c.contains.ensures ∙ c.if-contains.false in
-    let below : ltb (length xs) (room s) ≡ true = lt-ltb _ _ (omega (arith, c.len-at.ensures.many, c.places.ensures)) in
-    let pushed = take_more_set places at x (omega (arith, c.places.ensures)) ∙ ap (λ l. l ++ x ∷ []) c.len-at.ensures.front in
+    let pushed : take (s.count + 1) (set s.places.now s.count x) ≡ records s ++ x ∷ [] = take_more_set s.places.now s.count x (omega (arith, c.places.ensures)) in
     record {
-      answer = sym (cond-false _ _ _ new ∙ cond-true _ _ _ below);
-      left = pushed ∙ sym (cond-false _ _ _ new ∙ cond-true _ _ _ below);
-      room = ap (λ k. min k s.cap) (length-set places at x);
-      apart = λ a. ap (apart equal) pushed ∙ apart_push equal laws.reflexive laws.symmetric laws.transitive xs x a new;
-      gains = λ _. subst (λ ys. Gains equal xs ys x) (sym pushed) (gains equal laws.reflexive laws.symmetric laws.transitive xs x new);
+      within = omega (arith, c.places.ensures, length-set s.places.now s.count x);
+      alone = ap (apart _) pushed ∙ apart_push _ g.met.T.Eq.laws (records s) x s.alone (sym c.contains.ensures ∙ c.if-contains.false);
     }
+
+pub returns-clause-gains : goal.returns-clause-gains
+returns-clause-gains g c =
+    let s = c.args.self.now in
+    let x = c.args.item in
+    let pushed : take (s.count + 1) (set s.places.now s.count x) ≡ records s ++ x ∷ [] = take_more_set s.places.now s.count x (omega (arith, c.places.ensures)) in
+    λ _. subst (λ ys. Gains g.T.PartialEq.eq (records s) ys x) (sym pushed) (gains _ g.met.T.Eq.laws (records s) x (sym c.contains.ensures ∙ c.if-contains.false))

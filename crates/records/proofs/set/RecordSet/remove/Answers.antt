@@ -1,39 +1,53 @@
-use Rattle.std.proofs.Common.{◌≡◌, true, not, length, sym, ap, ◌∙◌, subst, arith}
-use Rattle.std.proofs.lemmas.Bool.{cond-true, cond-false, true≢false, false≢true}
-use Rattle.records.specs.Lists.{holds, apart, without}
+use Rattle.std.proofs.Common.{◌≡◌, true, false, not, length, take, ap, sym, ◌∙◌, subst, arith, rules}
+use Rattle.std.proofs.lemmas.Bool.{cond-true, cond-false}
+use Rattle.std.proofs.lemmas.List.{length-take-le}
+use Rattle.records.specs.Lists.{apart, holds, without}
 use Rattle.records.specs.Sets.{records, Loses}
-use Rattle.records.proofs.Sets.{apart_kept, as_many, fewer, without_none, loses}
+use Rattle.records.proofs.Sets.{apart_kept, none_taken, one_taken, loses}
 use Rattle.records.proofs.set.RecordSet.remove.Goals as goal
+use Rattle.records.proofs.set.RecordSet.remove.Goals.{After-sweep-left}
 
-pub returns-then-len-before : goal.returns-then-len-before
-returns-then-len-before g c =
-    let equal = g.T.Record.equal in
-    let xs = records c.args.self.now in
-    let x = c.args.item.now in
-    let left = c.keep_only.ensures.left in
-    let same : length (without equal xs x) ≡ length xs = sym (ap length left) ∙ omega (arith, c.len.ensures.many, c.len-before.ensures.many) in
-    record {
-      answer = sym (cond-false _ _ _ (as_many equal xs x same));
-      left = left;
-      room = c.keep_only.ensures.room;
-      apart = λ a. ap (apart equal) left ∙ apart_kept equal (λ y. not (equal y x)) xs a;
-      refused = λ _. left ∙ without_none equal xs x (as_many equal xs x same);
-      loses = λ e. absurd (false≢true e);
-    }
+module _ (g : _) (c : After-sweep-left g) where
+  kept : take c.sweep-left.result c.sweep-left.new.places ≡ without g.T.PartialEq.eq (records c.args.self.now) c.args.item.now
+  kept = c.sweep-left.ensures.kept (λ y. not (g.T.PartialEq.eq y c.args.item.now)) (λ y b r. search rules)
 
-pub returns : goal.returns
-returns g c =
-    let equal = g.T.Record.equal in
-    let laws = g.met.T.Record in
-    let xs = records c.args.self.now in
-    let x = c.args.item.now in
-    let left = c.keep_only.ensures.left in
-    let held : holds equal xs x ≡ true = fewer equal xs x (λ same. c.if-len-before.false (omega (arith, c.len.ensures.many, c.len-before.ensures.many, ap length left))) in
-    record {
-      answer = sym (cond-true _ _ _ held);
-      left = left;
-      room = c.keep_only.ensures.room;
-      apart = λ a. ap (apart equal) left ∙ apart_kept equal (λ y. not (equal y x)) xs a;
-      refused = λ e. absurd (true≢false e);
-      loses = λ _. subst (λ ys. Loses equal xs ys x) (sym left) (loses equal laws.reflexive laws.symmetric laws.transitive xs x held);
-    }
+  many : (length (take c.sweep-left.result c.sweep-left.new.places) ≡ c.sweep-left.result) × (length (records c.args.self.now) ≡ c.args.self.now.count)
+  many =
+      let s = c.args.self.now in
+      (omega (arith, s.within, length-take-le c.sweep-left.result c.sweep-left.new.places), omega (arith, s.within, length-take-le s.count s.places.now))
+
+  -- where as many are left as there were, none was the same
+  none : c.sweep-left.result ≡ c.args.self.now.count → (holds g.T.PartialEq.eq (records c.args.self.now) c.args.item.now ≡ false) × (take c.args.self.now.count c.sweep-left.new.places ≡ records c.args.self.now)
+  none all =
+      let s = c.args.self.now in
+      let found = none_taken _ g.met.T.Eq.laws (records s) _ c.args.item.now s.alone kept (omega (arith, many)) in
+      (found.0, ap (λ k. take k c.sweep-left.new.places) (sym all) ∙ found.1)
+
+  -- where fewer are left, one was
+  held : (c.sweep-left.result ≡ c.args.self.now.count → ⊥) → holds g.T.PartialEq.eq (records c.args.self.now) c.args.item.now ≡ true
+  held fewer = one_taken _ g.met.T.Eq.laws (records c.args.self.now) _ c.args.item.now kept (λ e. fewer (omega (arith, many)))
+
+pub invariant_of-self : goal.invariant_of-self
+invariant_of-self g c =
+    record { within = omega (arith, c.args.self.now.within); alone = ap (apart _) (none g (goal.at.invariant_of-self g c).After-sweep-left c.if-left-self.true).1 ∙ c.args.self.now.alone }
+
+pub returns-then-left-self-clause-answer : goal.returns-then-left-self-clause-answer
+returns-then-left-self-clause-answer g c =
+    sym (cond-false _ _ _ (none g (goal.at.returns-then-left-self-clause-answer g c).After-sweep-left c.if-left-self.true).0)
+
+pub returns-then-left-self-clause-refused : goal.returns-then-left-self-clause-refused
+returns-then-left-self-clause-refused g c = λ _. (none g (goal.at.returns-then-left-self-clause-refused g c).After-sweep-left c.if-left-self.true).1
+
+pub invariant_of-self-2 : goal.invariant_of-self-2
+invariant_of-self-2 g c =
+    let s = c.args.self.now in
+    record { within = omega (arith, s.within); alone = ap (apart _) (kept g (goal.at.invariant_of-self-2 g c).After-sweep-left) ∙ apart_kept _ _ (records s) s.alone }
+
+pub returns-clause-answer : goal.returns-clause-answer
+returns-clause-answer g c = sym (cond-true _ _ _ (held g (goal.at.returns-clause-answer g c).After-sweep-left c.if-left-self.false))
+
+pub returns-clause-loses : goal.returns-clause-loses
+returns-clause-loses g c =
+    let s = c.args.self.now in
+    let swept = (goal.at.returns-clause-loses g c).After-sweep-left in
+    λ _. subst (λ l. Loses g.T.PartialEq.eq (records s) l c.args.item.now) (sym (kept g swept)) (loses _ g.met.T.Eq.laws (records s) c.args.item.now s.alone (held g swept c.if-left-self.false))

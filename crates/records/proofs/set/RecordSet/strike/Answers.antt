@@ -1,21 +1,24 @@
-use Rattle.std.proofs.Common.{◌+◌, not, length, filter, ap, ◌∙◌}
-use Rattle.std.proofs.lemmas.Bool.{not-true}
+use Rattle.std.proofs.Common.{◌≡◌, not, length, take, filter, refl, ap, ◌∙◌, arith, rules}
+use Rattle.std.proofs.lemmas.List.Filters.{length-filter_both}
+use Rattle.std.proofs.lemmas.Map.Views.{any-filter_same}
 use Rattle.records.specs.Lists.{some, apart}
 use Rattle.records.specs.Sets.{records}
-use Rattle.records.proofs.Sets.{some_kept_none, apart_kept, kept_and_dropped}
+use Rattle.records.proofs.Sets.{apart_kept}
 use Rattle.records.proofs.set.RecordSet.strike.Goals as goal
+use Rattle.records.proofs.set.RecordSet.strike.Goals.{After-sweep-self}
 
-pub returns : goal.returns
-returns g c =
-    let equal = g.T.Record.equal in
-    let naming = g.T.Record.naming in
-    let thing = c.args.thing in
-    let xs = records c.args.self.now in
-    let left = c.keep_only.ensures.left in
-    record {
-      left = left;
-      room = c.keep_only.ensures.room;
-      apart = λ a. ap (apart equal) left ∙ apart_kept equal (λ y. not (naming y thing)) xs a;
-      many = ap (λ l. length l + length (filter (λ y. naming y thing) xs)) left ∙ kept_and_dropped (λ y. naming y thing) xs;
-      struck = ap (some (λ y. naming y thing)) left ∙ some_kept_none (λ y. naming y thing) (λ y. not (naming y thing)) (λ y. not-true (naming y thing)) xs;
-    }
+kept : (g : _) (c : After-sweep-self g) → take c.sweep-self.result c.sweep-self.new.places ≡ filter (λ y. not (g.T.Record.naming y c.args.thing)) (records c.args.self.now)
+kept g c = c.sweep-self.ensures.kept (λ y. not (g.T.Record.naming y c.args.thing)) (λ x b r. search rules)
+
+pub invariant_of-self : goal.invariant_of-self
+invariant_of-self g c =
+    let s = c.args.self.now in
+    record { within = omega (arith, s.within); alone = ap (apart _) (kept g (goal.at.invariant_of-self g c).After-sweep-self) ∙ apart_kept _ _ (records s) s.alone }
+
+pub returns-clause-many : goal.returns-clause-many
+returns-clause-many g c =
+    omega (arith, ap length (kept g (goal.at.returns-clause-many g c).After-sweep-self), length-filter_both (λ y. g.T.Record.naming y c.args.thing) _ (λ _. refl) (records c.args.self.now))
+
+pub returns-clause-struck : goal.returns-clause-struck
+returns-clause-struck g c =
+    ap (some (λ y. g.T.Record.naming y c.args.thing)) (kept g (goal.at.returns-clause-struck g c).After-sweep-self) ∙ any-filter_same _ _ _ (λ y e. ap not e) (records c.args.self.now)

@@ -1,82 +1,16 @@
--- What a write to one word of a bit register does to its entries.
-use Rattle.std.proofs.Common.{◌≡◌, ℕ, ◌+◌, ◌*◌, ◌<◌, ◌≤◌, Bool, true, false, cond, ◌&&◌, eqb, ltb, ◌≢◌, List, length, get_or, set, replicate, sym, refl, ap, ◌∙◌, ⊎_elim, arith}
+-- What a write to the sets of a bit register does to its entries.
+use Rattle.std.proofs.Common.{◌≡◌, ℕ, ◌<◌, Bool, true, false, cond, ◌&&◌, eqb, ltb, List, [], length, get_or, set, replicate, sym, refl, ap, ◌∙◌, inl, inr, arith, length-set}
 use mathlib.Core.Path.{fun_ext}
 use lib.ListN.{length-replicate}
-use Rattle.std.proofs.lemmas.List.{get_or-set_same, get_or-set_other, get_or-replicate, get_or_past}
-use Rattle.std.proofs.lemmas.Bool.{cases_Bool, cases_lt, both_ways, and_parts, and_from, and_left, and_right, eqb-true, eq-eqb, ltb-true, cond-true, cond-false}
+use Rattle.std.proofs.lemmas.List.{get_or-set_same, get_or-set_other, get_or-replicate}
+use Rattle.std.proofs.lemmas.Bool.{cases_eq, and_parts, and_right, eq-eqb, ne_eqb, ltb-true}
 use Rattle.bits.proofs.Bits.{has_zero}
 use Rattle.bits.specs.Sets.{members, none}
 use Rattle.bits.specs.Tables.{put}
-use Rattle.bits.specs.declared.set.BitSet.{BitSet}
-use Rattle.bits.specs.declared.set.DataType.{DataType}
-use Rattle.register.specs.Meaning.{Consents, Register, in_range, same, put_one}
-use Rattle.register.specs.BitMeaning.{entries_in, no_types}
-
-nothing : (x : Bool) → false ≡ cond x false false
-nothing true = refl
-nothing false = refl
-
-module _ (words : List (BitSet ℕ DataType)) (o q : ℕ) (v : BitSet ℕ DataType) (long : length words ≡ 2048) (o-in : o < 128) (q-in : q < 16) where
-  at_word : (a b : ℕ) → b < 16 → get_or (set words (16 * o + q) v) (16 * a + b) no_types ≡ cond (eqb a o && eqb b q) v (get_or words (16 * a + b) no_types)
-  at_word a b b-in =
-      ⊎_elim
-      (λ (yes' : (eqb a o && eqb b q) ≡ true).
-      let parts = and_parts (eqb a o) (eqb b q) yes' in
-      let here : 16 * a + b ≡ 16 * o + q = omega (arith, eqb-true a o parts.0, eqb-true b q parts.1) in
-      let within : 16 * o + q < length words = omega arith in
-      ap (λ n. get_or (set words (16 * o + q) v) n no_types) here ∙ get_or-set_same words (16 * o + q) v no_types within ∙ sym (cond-true _ _ _ yes'))
-      (λ (no' : (eqb a o && eqb b q) ≡ false).
-      let elsewhere : 16 * a + b ≢ 16 * o + q =
-      λ e. both_ways _ no' (and_from _ _ (eq-eqb a o (omega arith)) (eq-eqb b q (omega arith)))
-      in
-      get_or-set_other words (16 * o + q) (16 * a + b) v no_types elsewhere ∙ sym (cond-false _ _ _ no'))
-      (cases_Bool (eqb a o && eqb b q))
-
-  -- the word of the owner o and the purpose q is v, and every other word is as it was
-  pub word_set : (a b c : ℕ) → entries_in (set words (16 * o + q) v) a b c ≡ cond (eqb a o && eqb b q) (in_range a b c && members v c) (entries_in words a b c)
-  word_set a b c =
-      ⊎_elim
-      (λ (inside : in_range a b c ≡ true).
-      let low = (and_parts (ltb b 16) (ltb c 16) (and_parts (ltb a 128) (ltb b 16 && ltb c 16) inside).1).0 in
-      rw inside (ap (λ w. members w c) (at_word a b (ltb-true b 16 low)) ∙ inner (eqb a o && eqb b q) v (get_or words (16 * a + b) no_types)))
-      (λ (out : in_range a b c ≡ false). rw out (nothing (eqb a o && eqb b q)))
-      (cases_Bool (in_range a b c))
-    where
-      inner : (x : Bool) (v w : BitSet ℕ DataType) → members (cond x v w) c ≡ cond x (members v c) (members w c)
-      inner true v w = refl
-      inner false v w = refl
-
-  -- a word whose type t is put to x puts one entry to x
-  module _ (t : ℕ) (x : Bool) (inside : in_range o q t ≡ true) (is : members v ≡ put t x (members (get_or words (16 * o + q) no_types))) where
-    at_entry : (a b c : ℕ) → cond (eqb a o && eqb b q) (in_range a b c && members v c) (entries_in words a b c) ≡ cond (same o q t a b c) x (entries_in words a b c)
-    at_entry a b c =
-        ⊎_elim
-        (λ (yes' : (eqb a o && eqb b q) ≡ true).
-        let parts = and_parts (eqb a o) (eqb b q) yes' in
-        let owner : a ≡ o = eqb-true a o parts.0 in
-        let purpose : b ≡ q = eqb-true b q parts.1 in
-        let word : get_or words (16 * a + b) no_types ≡ get_or words (16 * o + q) no_types = λ i. get_or words (16 * owner i + purpose i) no_types in
-        let bit : members v c ≡ cond (eqb c t) x (members (get_or words (16 * o + q) no_types) c) = ap (λ f. f c) is in
-        cond-true _ _ _ yes'
-        ∙ ⊎_elim
-        (λ (here : eqb c t ≡ true).
-        let within_range : in_range a b c ≡ true = (λ i. in_range (owner i) (purpose i) (eqb-true c t here i)) ∙ inside in
-        (λ i. within_range i && (bit ∙ cond-true _ _ _ here) i)
-        ∙ sym (cond-true _ _ _ (and_from _ _ parts.0 (and_from _ _ parts.1 here))))
-        (λ (other : eqb c t ≡ false).
-        ap (λ y. in_range a b c && y) (bit ∙ cond-false _ _ _ other ∙ sym (ap (λ w. members w c) word))
-        ∙ sym (cond-false _ x _ (and_right (eqb a o) _ (and_right (eqb b q) _ other))))
-        (cases_Bool (eqb c t)))
-        (λ (no' : (eqb a o && eqb b q) ≡ false). cond-false _ _ _ no' ∙ sym (cond-false _ _ _ (outer (eqb a o) (eqb b q) (eqb c t) no')))
-        (cases_Bool (eqb a o && eqb b q))
-      where
-        outer : (l m n : Bool) → (l && m) ≡ false → (l && (m && n)) ≡ false
-        outer true m n e = and_left m n e
-        outer false m n e = refl
-
-    pub entry_put : entries_in (set words (16 * o + q) v) ≡ put_one o q t x (entries_in words)
-    unfolding put_one
-    entry_put = fun_ext (λ a. fun_ext (λ b. fun_ext (λ c. word_set a b c ∙ at_entry a b c)))
+use Rattle.bits.specs.declared.narrow.TypeSet.{TypeSet}
+use Rattle.vocabulary.proofs.Lists.{put_set, fresh}
+use Rattle.register.specs.Meaning.{Consents, Register, in_range, put_one, no_owner}
+use Rattle.register.specs.BitRows.{Wide, entries_in, no_types}
 
 -- the parts of a consent that is in range
 pub record Parts (o q t : ℕ) : Type 0 where
@@ -93,20 +27,83 @@ parts o q t inside =
 pub same_register : {l : ℕ} {f g : Consents} → f ≡ g → ◌≡◌ {A = Register} (record { limit = l; entries = f }) (record { limit = l; entries = g })
 same_register {l} e = λ i. record { limit = l; entries = e i }
 
--- words without types have no entries
-pub empty_words : (n : ℕ) (v : BitSet ℕ DataType) → members v ≡ none → (o q t : ℕ) → entries_in (replicate n v) o q t ≡ false
-empty_words n v is o q t =
-    and_right (in_range o q t) _
-    (⊎_elim
-    (λ (below : 16 * o + q < n). ap (λ w. members w t) (get_or-replicate n (16 * o + q) v no_types below) ∙ ap (λ f. f t) is)
-    (λ (past : n ≤ 16 * o + q). ap (λ w. members w t) (get_or_past (replicate n v) (16 * o + q) no_types (simp length-replicate past)) ∙ has_zero t)
-    (cases_lt (16 * o + q) n))
+pub entries_inside : (rows : List (List TypeSet)) (o q t : ℕ) → entries_in rows o q t ≡ true → in_range o q t ≡ true
+entries_inside rows o q t e = (and_parts (in_range o q t) _ e).0
 
--- a word without types has no entries, and every other word is as it was
-pub word_emptied : (words : List (BitSet ℕ DataType)) (o q : ℕ) (v : BitSet ℕ DataType) → length words ≡ 2048 → o < 128 → q < 16 → members v ≡ none → (a b c : ℕ) → entries_in (set words (16 * o + q) v) a b c ≡ cond (eqb a o && eqb b q) false (entries_in words a b c)
-word_emptied words o q v long o-in q-in is a b c =
-    word_set words o q v long o-in q-in a b c
-    ∙ ap (λ x. cond (eqb a o && eqb b q) x (entries_in words a b c)) (and_right (in_range a b c) _ (ap (λ f. f c) is))
+-- the types of each purpose in a row, and in each owner's
+abbrev row_types : List TypeSet → ℕ → ℕ → Bool
+row_types row q = types (get_or row q no_types)
 
-pub entries_inside : (words : List (BitSet ℕ DataType)) (o q t : ℕ) → entries_in words o q t ≡ true → in_range o q t ≡ true
-entries_inside words o q t e = (and_parts (in_range o q t) _ e).0
+abbrev all_types : List (List TypeSet) → Consents
+all_types rows o = row_types (get_or rows o [])
+
+-- one type put to x in a table of rows is one entry put to x
+one_put : (g : Consents) (o q t : ℕ) (x : Bool) → in_range o q t ≡ true → (a b c : ℕ) → (in_range a b c && put o (put q (put t x (g o q)) (g o)) g a b c) ≡ put_one o q t x (λ l m n. in_range l m n && g l m n) a b c
+unfolding put_one
+one_put g o q t x inside a b c =
+    elim (cases_eq a o) [
+      | inr other ↦ let e = ne_eqb a o other in simp e
+      | inl owner ↦
+          let e = eq-eqb a o owner in
+          elim (cases_eq b q) [
+            | inr other ↦ let f = ne_eqb b q other in simp (e, f) (ap (λ k. in_range a b c && g k b c) (sym owner))
+            | inl purpose ↦
+                let f = eq-eqb b q purpose in
+                elim (cases_eq c t) [
+                  | inr other ↦ let h = ne_eqb c t other in simp (e, f, h) (λ i. in_range a b c && g (sym owner i) (sym purpose i) c)
+                  | inl kind ↦
+                      let h = eq-eqb c t kind in
+                      let z : in_range a b c ≡ true = (λ i. in_range (owner i) (purpose i) (kind i)) ∙ inside in
+                      simp (e, f, h) (ap (λ y. y && x) z)
+                ]
+          ]
+    ]
+
+module _ (rows : List (List TypeSet)) (o : ℕ) (within : o < 128) (long : length rows ≡ 128) where
+  -- a row that is put has a set for each purpose too
+  pub wide_put : (row : List TypeSet) → Wide rows → length row ≡ 16 → Wide (set rows o row)
+  wide_put row wide is a a-in =
+      let inside : a < length rows = omega (arith, length-set rows o row) in
+      elim (cases_eq a o) [
+        | inl here ↦ ap (λ k. length (get_or (set rows o row) k [])) here ∙ ap length (get_or-set_same rows o row [] (omega arith)) ∙ is
+        | inr other ↦ ap length (get_or-set_other rows o a row [] other) ∙ wide a inside
+      ]
+
+  pub wide_set : (q : ℕ) (v : TypeSet) → Wide rows → Wide (set rows o (set (get_or rows o []) q v))
+  wide_set q v wide = wide_put _ wide (length-set (get_or rows o []) q v ∙ wide o (omega arith))
+
+  -- a set whose type t is put to x puts one entry to x
+  pub entry_put : (q t : ℕ) (x : Bool) (v : TypeSet) → Wide rows → in_range o q t ≡ true → types v ≡ put t x (types (get_or (get_or rows o []) q no_types)) → entries_in (set rows o (set (get_or rows o []) q v)) ≡ put_one o q t x (entries_in rows)
+  entry_put q t x v wide inside is =
+      let row = get_or rows o [] in
+      let here : q < length row = omega (arith, wide o (omega arith), (parts o q t inside).purpose) in
+      let one : row_types (set row q v) ≡ put q (put t x (row_types row q)) (row_types row) = put_set types row q v no_types here ∙ ap (λ s. put q s (row_types row)) is in
+      let all : all_types (set rows o (set row q v)) ≡ put o (put q (put t x (row_types row q)) (row_types row)) (all_types rows) =
+      put_set row_types rows o (set row q v) [] (omega arith) ∙ ap (λ s. put o s (all_types rows)) one
+      in
+      fun_ext (λ a. fun_ext (λ b. fun_ext (λ c. ap (λ g. in_range a b c && g a b c) all ∙ one_put (all_types rows) o q t x inside a b c)))
+
+  -- an owner whose sets are all empty has no entries
+  pub owner_emptied : (n : ℕ) (v : TypeSet) → types v ≡ none → entries_in (set rows o (replicate n v)) ≡ no_owner o (entries_in rows)
+  unfolding no_owner
+  owner_emptied n v is =
+      let all : all_types (set rows o (replicate n v)) ≡ put o (λ _. none) (all_types rows) =
+      put_set row_types rows o (replicate n v) [] (omega arith) ∙ ap (λ s. put o s (all_types rows)) (no_types_in n v is)
+      in
+      fun_ext (λ a. fun_ext (λ b. fun_ext (λ c. ap (λ g. in_range a b c && g a b c) all ∙ elim (cases_eq a o) [
+        | inl here ↦ let e = eq-eqb a o here in simp e (and_right (in_range a b c) false refl)
+        | inr other ↦ let e = ne_eqb a o other in simp e
+      ])))
+    where
+      no_types_in : (n : ℕ) (v : TypeSet) → types v ≡ none → row_types (replicate n v) ≡ (λ _. none)
+      no_types_in n v is = fresh types n v no_types none is (fun_ext has_zero)
+
+pub wide_rows : (m : ℕ) (row : List TypeSet) → length row ≡ 16 → Wide (replicate m row)
+wide_rows m row is o o-in = ap length (get_or-replicate m o row [] (simp length-replicate at o-in)) ∙ is
+
+-- sets without types have no entries
+pub empty_rows : (m n : ℕ) (v : TypeSet) → types v ≡ none → (o q t : ℕ) → entries_in (replicate m (replicate n v)) o q t ≡ false
+empty_rows m n v is o q t =
+    let row : row_types (replicate n v) ≡ (λ _. none) = fresh types n v no_types none is (fun_ext has_zero) in
+    let rows = fresh row_types m (replicate n v) [] (λ _. none) row (λ i k c. has_zero c i) in
+    and_right (in_range o q t) _ (ap (λ g. g o q t) rows)

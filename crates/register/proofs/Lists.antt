@@ -4,7 +4,8 @@ use mathlib.Core.Path.{fun_ext}
 use Rattle.std.proofs.lemmas.List.{drop_more}
 use Rattle.std.proofs.lemmas.Bool.{cases_Bool, cases_eq, and_parts, and_from, and_left, or_left, or_right, eqb-true, eq-eqb, ne_eqb, cond-true, cond-false, not-true}
 use Rattle.std.proofs.lemmas.Bool.Decides.{nat_tests}
-use Rattle.bits.specs.Tables.{one, count_below}
+use Rattle.bits.specs.Tables.{count_below}
+use Rattle.vocabulary.proofs.Counts.{count_same, count_more}
 use Rattle.records.specs.Kinds.{same_consent}
 use Rattle.records.specs.Lists.{holds, apart}
 use Rattle.records.specs.declared.kinds.Consent.{Consent}
@@ -12,35 +13,6 @@ use Rattle.records.proofs.Sets.{some_push}
 use Rattle.register.specs.Meaning.{Consents, same, owned, put_one}
 use Rattle.register.specs.ListMeaning.{consent, of_owner, entries_of, Inside, Under}
 use Rattle.register.proofs.BitWords.{Parts, parts}
-
--- tests that agree below n count alike
-pub count_same : (p r : ℕ → Bool) (n : ℕ) → ((k : ℕ) → k < n → p k ≡ r k) → count_below p n ≡ count_below r n
-unfolding count_below
-count_same p r zero h = refl
-count_same p r (suc n) h = omega (arith, ap one (h n (omega arith)), count_same p r n (λ k lt. h k (omega arith)))
-
--- where one test passes whenever the other does it counts at least as many
-pub count_mono : (p r : ℕ → Bool) (n : ℕ) → ((k : ℕ) → p k ≡ true → r k ≡ true) → count_below p n ≤ count_below r n
-unfolding count_below
-count_mono p r zero h = omega arith
-count_mono p r (suc n) h = omega (arith, one_mono (p n) (r n) (h n), count_mono p r n h)
-  where
-    one_mono : (x y : Bool) → (x ≡ true → y ≡ true) → one x ≤ one y
-    one_mono true y h = omega (arith, ap one (h refl))
-    one_mono false y h = omega arith
-
--- one number more passes
-pub count_more : (p r : ℕ → Bool) (n k : ℕ) → k < n → p k ≡ false → r k ≡ true → ((j : ℕ) → j ≢ k → r j ≡ p j) → count_below r n ≡ count_below p n + 1
-unfolding count_below
-count_more p r zero k lt was is others = absurd (omega arith)
-count_more p r (suc n) k lt was is others =
-    ⊎_elim
-    (λ (here : k ≡ n).
-    let old : one (p n) ≡ 0 = ap (λ j. one (p j)) (sym here) ∙ ap one was in
-    let new : one (r n) ≡ 1 = ap (λ j. one (r j)) (sym here) ∙ ap one is in
-    omega (arith, count_same r p n (λ j below. others j (λ e. omega arith))))
-    (λ (ne : k ≡ n → ⊥). omega (arith, count_more p r n k (omega arith) was is others, ap one (others n (λ e. ne (sym e)))))
-    (cases_eq k n)
 
 -- an owner has one entry more where one of the owner's is put, and every other owner has as many as before
 module _ (f : Consents) (o q t : ℕ) (q-in : q < 16) (t-in : t < 16) (new : f o q t ≡ false) where
@@ -240,14 +212,6 @@ pub roomy : (xs : List Consent) (limit o : ℕ) → apart same_consent xs ≡ tr
 roomy xs limit o alone inside under o-in less =
     let counts : sum_below (λ a. length (filter (of_owner a) xs)) 128 ≡ sum_below (owned (entries_of xs)) 128 = sum_same _ _ 128 (λ a lt. owner_count xs alone inside a) in
     omega (arith, by_owners xs inside, counts, sum_lt (owned (entries_of xs)) limit 128 o under o-in less)
-
--- one consent more is looked at
-pub kept_at : (p : Consent → Bool) (xs : List Consent) (i : ℕ) → i < length xs → length (filter p (drop i xs)) ≡ one (p (get_or xs i (consent 0 0 0))) + length (filter p (drop (i + 1) xs))
-kept_at p xs i within = ap (λ l. length (filter p l)) (drop_more xs i (consent 0 0 0) within) ∙ counted_first (p (get_or xs i (consent 0 0 0)))
-  where
-    counted_first : (b : Bool) → length (cond b (get_or xs i (consent 0 0 0) ∷ filter p (drop (i + 1) xs)) (filter p (drop (i + 1) xs))) ≡ one b + length (filter p (drop (i + 1) xs))
-    counted_first true = omega arith
-    counted_first false = omega arith
 
 -- an empty list holds nothing
 pub none_held : (xs : List Consent) (o q t : ℕ) → xs ≡ [] → entries_of xs o q t ≡ false

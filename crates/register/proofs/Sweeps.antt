@@ -1,13 +1,9 @@
--- Entries that are taken out one word after another.
+-- A pair's entries that are taken out one owner after another.
 use Rattle.std.proofs.Common.{◌≡◌, ℕ, ◌+◌, ◌<◌, ◌≤◌, Bool, true, false, cond, ◌&&◌, ◌||◌, eqb, ltb, sym, refl, ap, ◌∙◌, ⊎_elim, arith}
 use mathlib.Core.Path.{fun_ext}
 use Rattle.std.proofs.lemmas.Bool.{both_ways, cond-false, cases_Bool, cases_lt, lt-ltb, le-ltb, and_left, and_right}
 use Rattle.std.proofs.lemmas.Bool.Decides.{nat_tests}
-use Rattle.register.specs.Meaning.{Consents, in_range, no_owner, no_pair}
-
--- an owner's entries of the purposes below k are out
-unfoldable pub purposes_out : ℕ → ℕ → Consents → Consents
-purposes_out o k f a b c = cond (eqb a o && ltb b k) false (f a b c)
+use Rattle.register.specs.Meaning.{Consents, in_range, no_pair}
 
 -- a pair's entries of the owners below k are out
 unfoldable pub owners_out : ℕ → ℕ → ℕ → Consents → Consents
@@ -26,51 +22,14 @@ joined_first false true false f = refl
 joined_first false false true f = refl
 joined_first false false false f = refl
 
-joined_last : (x y p f : Bool) → cond (p && x) false (cond (p && y) false f) ≡ cond (p && (x || y)) false f
-joined_last true true true f = refl
-joined_last true true false f = refl
-joined_last true false true f = refl
-joined_last true false false f = refl
-joined_last false true true f = refl
-joined_last false true false f = refl
-joined_last false false true f = refl
-joined_last false false false f = refl
-
 out_of_none : (x : Bool) → cond x false false ≡ false
 out_of_none true = refl
 out_of_none false = refl
 
 module _ (f : Consents) (inside : (a b c : ℕ) → f a b c ≡ true → in_range a b c ≡ true) where
   -- nothing is held out of range
-  outside : (a b c : ℕ) → in_range a b c ≡ false → f a b c ≡ false
+  pub outside : (a b c : ℕ) → in_range a b c ≡ false → f a b c ≡ false
   outside a b c out = ⊎_elim (λ t. let z = inside a b c t in absurd (both_ways (in_range a b c) out z)) (λ e. e) (cases_Bool (f a b c))
-
-  pub purposes_none : (o : ℕ) → f ≡ purposes_out o 0 f
-  unfolding purposes_out
-  purposes_none o = fun_ext (λ a. fun_ext (λ b. fun_ext (λ c. sym (cond-false _ _ _ (and_right (eqb a o) _ (le-ltb b 0 (omega arith)))))))
-
-  pub purposes_more : (g h : Consents) (o k : ℕ) → g ≡ purposes_out o k f → ((a b c : ℕ) → h a b c ≡ cond (eqb a o && eqb b k) false (g a b c)) → h ≡ purposes_out o (k + 1) f
-  unfolding purposes_out
-  purposes_more g h o k so_far is =
-      fun_ext (λ a. fun_ext (λ b. fun_ext (λ c.
-      is a b c
-      ∙ ap (λ j. cond (eqb a o && eqb b k) false (j a b c)) so_far
-      ∙ joined_last (eqb b k) (ltb b k) (eqb a o) (f a b c)
-      ∙ ap (λ x. cond (eqb a o && x) false (f a b c)) (next b k))))
-
-  pub purposes_all : (o k : ℕ) → 16 ≤ k → purposes_out o k f ≡ no_owner o f
-  unfolding purposes_out no_owner
-  purposes_all o k all =
-      fun_ext (λ a. fun_ext (λ b. fun_ext (λ c. ⊎_elim
-      (λ (below : b < 16). ap (λ x. cond x false (f a b c)) (ap (λ y. eqb a o && y) (lt-ltb b k (omega arith)) ∙ and_yes (eqb a o)))
-      (λ (past : 16 ≤ b).
-      let none = outside a b c (and_right (ltb a 128) _ (and_left (ltb b 16) _ (le-ltb b 16 past))) in
-      ap (cond (eqb a o && ltb b k) false) none ∙ out_of_none _ ∙ sym (ap (cond (eqb a o) false) none ∙ out_of_none _))
-      (cases_lt b 16))))
-    where
-      and_yes : (x : Bool) → (x && true) ≡ x
-      and_yes true = refl
-      and_yes false = refl
 
   pub owners_none : (q t : ℕ) → f ≡ owners_out q t 0 f
   unfolding owners_out

@@ -1,5 +1,7 @@
 -- What the calls of a register answer, by number, and what they leave.
 use Rattle.std.specs.Prelude.{ℕ, true, false, cond, not, ◌&&◌, Ok, Err, Result, nat_le, nat_lt}
+use Rattle.records.specs.declared.set.SetFault.{SetFault}
+use Rattle.records.specs.declared.set.SetFault.TheVariants.{AlreadyThere, NotThere, NoPlace}
 use Rattle.register.specs.Meaning.{Register, held, counted, owned, in_range, put_one, no_owner, no_pair}
 use Rattle.register.specs.declared.fault.RegisterFault.{RegisterFault}
 use Rattle.register.specs.declared.fault.RegisterFault.TheVariants.{OutOfRange, AlreadyGiven, NotGiven, Full}
@@ -10,6 +12,12 @@ fault_number OutOfRange = 1
 fault_number AlreadyGiven = 9
 fault_number NotGiven = 10
 fault_number Full = 13
+
+-- what a register says where its set refused
+abbrev pub of_set_fault : SetFault → RegisterFault
+of_set_fault AlreadyThere = AlreadyGiven
+of_set_fault NotThere = NotGiven
+of_set_fault NoPlace = Full
 
 -- the number of an answer: 0 where it was accepted
 abbrev pub answer_number : Result (Unit {0}) RegisterFault → ℕ

@@ -1,4 +1,5 @@
 pub mod Meaning
 pub mod Answers
+pub mod BitRows
 pub mod BitMeaning
 pub mod ListMeaning

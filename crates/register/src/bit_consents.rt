@@ -1,5 +1,5 @@
 // The bit register's calls.
-ghost use Rattle.std.specs.Prelude.{◌≡◌, ℕ, ◌+◌, ◌*◌, ◌<◌, false, ◌≢◌};
+ghost use Rattle.std.specs.Prelude.{◌≡◌, ℕ, false, ◌≢◌};
 ghost use Rattle.register.specs.Answers.{answer_number, give_answer, after_give};
 ghost use Rattle.register.specs.BitMeaning.{bit_meaning};
 
@@ -7,23 +7,16 @@ use crate::bit_register::BitRegister;
 use crate::fault::RegisterFault;
 use crate::ranges::in_range;
 use crate::register::ConsentRegister;
-use bits::set::TypeSet;
-
-// Where the word of an owner and a purpose lies.
-fn word_of(owner: u16, purpose: u16) -> usize
-    requires { (owner < 128) × (purpose < 16) }
-    ensures value { result ≡ 16 * owner + purpose }
-    ensures within { result < 2048 }
-{
-    16 * owner as usize + purpose as usize
-}
+use bits::narrow::TypeSet;
+use records::kinds::Consent;
+use records::record::Pair;
 
 impl BitRegister {
     pub fn new() -> BitRegister
         ensures { (o q t : ℕ) → (bit_meaning result).entries o q t ≡ false }
     {
         BitRegister {
-            words: [TypeSet::empty(); 2048],
+            types: [[TypeSet::empty(); 16]; 128],
         }
     }
 }
@@ -37,56 +30,49 @@ impl ConsentRegister for BitRegister {
         256
     }
 
-    fn holds(&self, owner: u16, purpose: u16, data_type: u16) -> bool {
-        if !in_range(owner, purpose, data_type) {
+    fn holds(&self, consent: Consent) -> bool {
+        if in_range(consent).is_err() {
             return false;
         }
-        self.words[word_of(owner, purpose)].contains(data_type)
+        let types = self.types[consent.owner as usize][consent.purpose as usize];
+        types.contains(consent.data_type)
     }
 
-    fn give(&mut self, owner: u16, purpose: u16, data_type: u16) -> Result<(), RegisterFault>
-        ensures answer { answer_number result ≡ give_answer (bit_meaning self.old) owner purpose data_type }
-        ensures left { bit_meaning self.new ≡ after_give (bit_meaning self.old) owner purpose data_type }
+    fn give(&mut self, consent: Consent) -> Result<(), RegisterFault>
+        ensures answer { answer_number result ≡ give_answer (bit_meaning self.old) consent.owner consent.purpose consent.data_type }
+        ensures left { bit_meaning self.new ≡ after_give (bit_meaning self.old) consent.owner consent.purpose consent.data_type }
         ensures never_full { answer_number result ≢ 13 }
     {
-        if !in_range(owner, purpose, data_type) {
-            return Err(RegisterFault::OutOfRange);
-        }
-        let at = word_of(owner, purpose);
-        let types = self.words[at];
-        if types.contains(data_type) {
+        in_range(consent)?;
+        let types = &mut self.types[consent.owner as usize][consent.purpose as usize];
+        if types.contains(consent.data_type) {
             return Err(RegisterFault::AlreadyGiven);
         }
-        self.words[at] = types.with(data_type);
+        *types = types.with(consent.data_type);
         Ok(())
     }
 
-    fn withdraw(&mut self, owner: u16, purpose: u16, data_type: u16) -> Result<(), RegisterFault> {
-        if !in_range(owner, purpose, data_type) {
-            return Err(RegisterFault::OutOfRange);
-        }
-        let at = word_of(owner, purpose);
-        let types = self.words[at];
-        if !types.contains(data_type) {
+    fn withdraw(&mut self, consent: Consent) -> Result<(), RegisterFault> {
+        in_range(consent)?;
+        let types = &mut self.types[consent.owner as usize][consent.purpose as usize];
+        if !types.contains(consent.data_type) {
             return Err(RegisterFault::NotGiven);
         }
-        self.words[at] = types.without(data_type);
+        *types = types.without(consent.data_type);
         Ok(())
     }
 
     fn erase(&mut self, owner: u16) {
         if owner < 128 {
-            for purpose in 0..16u16 {
-                self.words[word_of(owner, purpose)] = TypeSet::empty();
-            }
+            self.types[owner as usize] = [TypeSet::empty(); 16];
         }
     }
 
-    fn strike(&mut self, purpose: u16, data_type: u16) {
-        if purpose < 16 && data_type < 16 {
-            for owner in 0..128u16 {
-                let at = word_of(owner, purpose);
-                self.words[at] = self.words[at].without(data_type);
+    fn strike(&mut self, pair: Pair) {
+        if pair.purpose < 16 && pair.data_type < 16 {
+            for of_owner in &mut self.types {
+                let types = &mut of_owner[pair.purpose as usize];
+                *types = types.without(pair.data_type);
             }
         }
     }

@@ -1,7 +1,10 @@
-use bits::set::TypeSet;
+ghost use Rattle.register.specs.BitRows.{Wide};
 
-// One bit for each consent: for each owner and purpose a set of data types. It is never full.
+use bits::narrow::TypeSet;
+
+// One bit for each consent: for each owner and each purpose a set of data types. It is never full.
 #[derive(Drop)]
 pub struct BitRegister {
-    pub(crate) words: [TypeSet; 2048],
+    pub(crate) types: [[TypeSet; 16]; 128],
+    ghost wide: { Wide types },
 }

@@ -3,6 +3,8 @@ ghost use Rattle.std.specs.Prelude.{◌≡◌};
 
 use crate::fault::RegisterFault;
 use crate::register::ConsentRegister;
+use records::kinds::Consent;
+use records::record::Pair;
 
 #[derive(Drop)]
 pub struct Lent<'r, R> {
@@ -28,23 +30,23 @@ impl<'r, R: ConsentRegister> ConsentRegister for Lent<'r, R> {
         self.register.limit()
     }
 
-    fn holds(&self, owner: u16, purpose: u16, data_type: u16) -> bool {
-        self.register.holds(owner, purpose, data_type)
+    fn holds(&self, consent: Consent) -> bool {
+        self.register.holds(consent)
     }
 
-    fn give(&mut self, owner: u16, purpose: u16, data_type: u16) -> Result<(), RegisterFault> {
-        self.register.give(owner, purpose, data_type)
+    fn give(&mut self, consent: Consent) -> Result<(), RegisterFault> {
+        self.register.give(consent)
     }
 
-    fn withdraw(&mut self, owner: u16, purpose: u16, data_type: u16) -> Result<(), RegisterFault> {
-        self.register.withdraw(owner, purpose, data_type)
+    fn withdraw(&mut self, consent: Consent) -> Result<(), RegisterFault> {
+        self.register.withdraw(consent)
     }
 
     fn erase(&mut self, owner: u16) {
         self.register.erase(owner)
     }
 
-    fn strike(&mut self, purpose: u16, data_type: u16) {
-        self.register.strike(purpose, data_type)
+    fn strike(&mut self, pair: Pair) {
+        self.register.strike(pair)
     }
 }

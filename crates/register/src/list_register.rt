@@ -1,6 +1,4 @@
-ghost use Rattle.std.specs.Prelude.{◌≡◌, ◌≤◌, true};
-ghost use Rattle.records.specs.Kinds.{same_consent};
-ghost use Rattle.records.specs.Lists.{apart};
+ghost use Rattle.std.specs.Prelude.{◌≤◌};
 ghost use Rattle.records.specs.Sets.{records, room};
 ghost use Rattle.register.specs.ListMeaning.{share, Inside, Under};
 
@@ -12,7 +10,6 @@ use records::set::RecordSet;
 #[derive(Drop)]
 pub struct ListRegister<'a> {
     pub(crate) set: RecordSet<'a, Consent>,
-    ghost alone: { apart same_consent (records set) ≡ true },
     ghost inside: { Inside (records set) },
     ghost under: { Under (share (room set)) (records set) },
     ghost enough: { 128 ≤ room set },

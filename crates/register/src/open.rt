@@ -24,9 +24,10 @@ pub fn open_list<J: Job>(places: &mut [Consent], job: &mut J) -> Result<(), Regi
     ensures opened { MatchResult result (λ _. (128 ≤ length places.old) × J.Job.done job.old (list_meaning (length places.old) []) job.new) (λ f. (length places.old < 128) × (fault_number f ≡ 13) × (job.new ≡ job.old)) }
     ensures refused { IfErr result (λ f. places.new ≡ places.old) }
 {
+    // Asked here and not left to `ListRegister::new`, whose contract cannot say that refused places are as they were.
     if places.len() < 128 {
         return Err(RegisterFault::Full);
     }
-    job.run(ListRegister::new(places));
+    job.run(ListRegister::over(places));
     Ok(())
 }

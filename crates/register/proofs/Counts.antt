@@ -1,12 +1,8 @@
 -- How many entries an owner has.
-use Rattle.std.proofs.Common.{◌≡◌, ℕ, zero, suc, ◌+◌, ◌*◌, ◌/◌, ◌%◌, ◌<◌, ◌≤◌, Bool, true, false, leb, sym, ap, ◌∙◌, ⊎_elim, arith}
-use Rattle.std.proofs.lemmas.Bool.{cases_eq, lt-leb}
-use Rattle.vocabulary.proofs.Counts.{count_le, count_lt}
+use Rattle.std.proofs.Common.{◌≡◌, ℕ, ◌+◌, ◌*◌, ◌/◌, ◌%◌, ◌<◌, false, leb, ◌∙◌, arith}
+use Rattle.std.proofs.lemmas.Bool.{lt-leb}
+use Rattle.vocabulary.proofs.Counts.{count_lt}
 use Rattle.register.specs.Meaning.{Consents, owned}
-
-pub owned_most : (f : Consents) (o : ℕ) → owned f o ≤ 256
-unfolding owned
-owned_most f o = count_le (λ n. f o (n / 16) (n % 16)) 256
 
 -- an owner who lacks a pair has fewer entries than there are pairs
 pub never_full : (f : Consents) (o q t : ℕ) → q < 16 → t < 16 → f o q t ≡ false → leb 256 (owned f o) ≡ false

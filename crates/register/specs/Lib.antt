@@ -3,3 +3,4 @@ pub mod Answers
 pub mod BitRows
 pub mod BitMeaning
 pub mod ListMeaning
+pub mod Laws

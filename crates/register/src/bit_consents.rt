@@ -2,6 +2,7 @@
 ghost use Rattle.std.specs.Prelude.{◌≡◌, ℕ, false, ◌≢◌};
 ghost use Rattle.register.specs.Answers.{answer_number, give_answer, after_give};
 ghost use Rattle.register.specs.BitMeaning.{bit_meaning};
+ghost use Rattle.register.specs.Laws.{bit_sound};
 
 use crate::bit_register::BitRegister;
 use crate::fault::RegisterFault;
@@ -24,7 +25,7 @@ impl BitRegister {
 impl ConsentRegister for BitRegister {
     ghost meaning = { bit_meaning };
 
-    fn stands(&self) {}
+    ghost sound = { bit_sound };
 
     fn limit(&self) -> u16 {
         256

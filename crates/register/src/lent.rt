@@ -22,9 +22,7 @@ impl<'r, R: ConsentRegister> Lent<'r, R> {
 impl<'r, R: ConsentRegister> ConsentRegister for Lent<'r, R> {
     ghost meaning = { λ s. R.ConsentRegister.meaning s.register.now };
 
-    fn stands(&self) {
-        self.register.stands()
-    }
+    ghost sound = { λ s. R.ConsentRegister.sound s.register.now };
 
     fn limit(&self) -> u16 {
         self.register.limit()

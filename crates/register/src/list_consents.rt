@@ -2,6 +2,7 @@
 ghost use Rattle.std.specs.Prelude.{◌≡◌, ◌<◌, ◌≤◌, [], length, filter, MatchResult};
 ghost use Rattle.records.specs.Sets.{records, room};
 ghost use Rattle.register.specs.ListMeaning.{of_owner, list_meaning};
+ghost use Rattle.register.specs.Laws.{list_sound};
 ghost use Rattle.register.specs.declared.fault.RegisterFault.TheVariants.{Full};
 
 use crate::fault::RegisterFault;
@@ -48,7 +49,7 @@ impl<'a> ListRegister<'a> {
 impl<'a> ConsentRegister for ListRegister<'a> {
     ghost meaning = { λ s. list_meaning (room s.set) (records s.set) };
 
-    fn stands(&self) {}
+    ghost sound = { list_sound };
 
     fn limit(&self) -> u16 {
         (self.set.places() / 128).min(256) as u16

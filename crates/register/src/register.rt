@@ -10,10 +10,6 @@ use records::record::Pair;
 pub trait ConsentRegister {
     ghost meaning: { Self → Register };
 
-    // Does nothing: it tells what is true of every register.
-    fn stands(&self)
-        ensures { Sound (meaning self.now) };
-
     // How many consents an owner may have.
     fn limit(&self) -> u16
         ensures { result ≡ (meaning self.now).limit };
@@ -36,4 +32,12 @@ pub trait ConsentRegister {
     // Takes out one pair for all owners.
     fn strike(&mut self, pair: Pair)
         ensures { meaning self.new ≡ after_strike (meaning self.old) pair.purpose pair.data_type };
+
+    // What is true of every register.
+    ghost sound: { (s : Self) → Sound (meaning s) };
+
+    // Does nothing: it tells what is true of every register.
+    final fn stands(&self)
+        ensures { Sound (meaning self.now) }
+    {}
 }

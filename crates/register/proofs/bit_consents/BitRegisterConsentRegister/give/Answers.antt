@@ -1,9 +1,7 @@
-use Rattle.std.proofs.Common.{◌≡◌, false, true, leb, length, get_or, sym, ◌∙◌, ap, rules}
+use Rattle.std.proofs.Common.{◌≡◌, false, true, leb, length, sym, ◌∙◌, rules}
 use Rattle.std.proofs.lemmas.Bool.{cond-true, cond-false, lt-ltb, not_from_true}
-use Rattle.bits.specs.Sets.{members}
-use Rattle.bits.specs.Tables.{put}
 use Rattle.register.specs.Meaning.{in_range, owned}
-use Rattle.register.specs.BitRows.{entries_in, no_types}
+use Rattle.register.specs.BitRows.{entries_in}
 use Rattle.register.proofs.BitWords.{entry_put, parts, same_register}
 use Rattle.register.proofs.Counts.{never_full}
 use Rattle.register.proofs.bit_consents.BitRegisterConsentRegister.give.Goals as goal

@@ -3,4 +3,6 @@
 
 pub mod entry;
 pub mod makes;
+pub mod number;
 pub mod run;
+pub mod show;

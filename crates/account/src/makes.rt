@@ -9,8 +9,7 @@ use crate::run::run;
 use records::kinds::Consent;
 use register::bit_register::BitRegister;
 use register::fault::RegisterFault;
-use register::open::{Job, open_list};
-use register::register::ConsentRegister;
+use register::list_register::ListRegister;
 
 // Runs the account over a new register of bits.
 pub fn run_bits(entries: &mut [Entry])
@@ -20,32 +19,11 @@ pub fn run_bits(entries: &mut [Entry])
     run(&mut register, entries);
 }
 
-// How many entries an account has.
-pub const ENTRIES: usize = 32;
-
-// An account that is to be run over a register.
-#[derive(Drop)]
-struct Account {
-    entries: [Entry; ENTRIES],
-}
-
-impl Job for Account {
-    ghost done = { λ before m after. after.entries ≡ answered m before.entries };
-
-    fn run<R: ConsentRegister + Drop>(&mut self, register: R) {
-        let mut register = register;
-        run(&mut register, &mut self.entries);
-    }
-}
-
 // Runs the account over a new list register in the places. Fewer than 128 places are refused.
-pub fn run_list(
-    places: &mut [Consent],
-    entries: [Entry; ENTRIES],
-) -> Result<[Entry; ENTRIES], RegisterFault>
-    ensures { MatchResult result (λ after. (128 ≤ length places.old) × (after ≡ answered (nothing (share (length places.old))) entries)) (λ f. (length places.old < 128) × (fault_number f ≡ 13)) }
+pub fn run_list(places: &mut [Consent], entries: &mut [Entry]) -> Result<(), RegisterFault>
+    ensures { MatchResult result (λ _. (128 ≤ length places.old) × (entries.new ≡ answered (nothing (share (length places.old))) entries.old)) (λ f. (length places.old < 128) × (fault_number f ≡ 13) × (entries.new ≡ entries.old)) }
 {
-    let mut account = Account { entries };
-    open_list(places, &mut account)?;
-    Ok(account.entries)
+    let mut list = ListRegister::new(places)?;
+    run(&mut list, entries);
+    Ok(())
 }

@@ -1,49 +1,39 @@
 // Running an account.
-ghost use Rattle.std.specs.Prelude.{◌≡◌};
-ghost use Rattle.register.specs.Answers.{answer_number};
-ghost use Rattle.account.specs.Steps.{step_answer, after_step, answered, after_all};
+ghost use Rattle.std.specs.Prelude.{◌≡◌, map};
+ghost use Rattle.account.specs.Answers.{number_of, answer_of, entry_number};
+ghost use Rattle.account.specs.Steps.{step_answer, after_step, answered, after_all, numbers};
 
-use crate::entry::{Entry, Step};
-use register::fault::RegisterFault;
+use crate::entry::{Answer, Entry, Step};
 use register::register::ConsentRegister;
 
-// The number of an answer: 0 where it was accepted.
-pub fn number(answer: Result<(), RegisterFault>) -> u8
-    ensures { result ≡ answer_number answer }
-{
-    match answer {
-        Ok(()) => 0,
-        Err(fault) => fault.number(),
-    }
-}
-
-// Makes one call and gives the number of its answer.
-pub fn apply<R: ConsentRegister>(register: &mut R, step: Step) -> u8
-    ensures answer { result ≡ step_answer (R.ConsentRegister.meaning register.old) step }
+// Makes one call and gives its answer.
+pub fn apply<R: ConsentRegister>(register: &mut R, step: Step) -> Answer
+    ensures answer { result ≡ answer_of (R.ConsentRegister.meaning register.old) step }
+    ensures number { number_of result ≡ step_answer (R.ConsentRegister.meaning register.old) step }
     ensures left { R.ConsentRegister.meaning register.new ≡ after_step (R.ConsentRegister.meaning register.old) step }
 {
     match step {
-        Step::Give(x) => number(register.give(x.owner, x.purpose, x.data_type)),
-        Step::Withdraw(x) => number(register.withdraw(x.owner, x.purpose, x.data_type)),
+        Step::Give(consent) => Answer::Change(register.give(consent)),
+        Step::Withdraw(consent) => Answer::Change(register.withdraw(consent)),
         Step::Erase(owner) => {
             register.erase(owner);
-            0
+            Answer::Change(Ok(()))
         }
-        Step::Strike { purpose, data_type } => {
-            register.strike(purpose, data_type);
-            0
+        Step::Strike(pair) => {
+            register.strike(pair);
+            Answer::Change(Ok(()))
         }
-        Step::Ask(x) => register.holds(x.owner, x.purpose, x.data_type) as u8,
+        Step::Ask(consent) => Answer::Held(register.holds(consent)),
     }
 }
 
 // Makes the calls of the entries in their order and puts each answer into its entry.
 pub fn run<R: ConsentRegister>(register: &mut R, entries: &mut [Entry])
     ensures answers { entries.new ≡ answered (R.ConsentRegister.meaning register.old) entries.old }
+    ensures numbers { map entry_number entries.new ≡ numbers (R.ConsentRegister.meaning register.old) entries.old }
     ensures left { R.ConsentRegister.meaning register.new ≡ after_all (R.ConsentRegister.meaning register.old) entries.old }
 {
-    for at in 0..entries.len() {
-        let answer = apply(register, entries[at].step);
-        entries[at].answer = answer;
+    for entry in entries {
+        entry.answer = Some(apply(register, entry.step));
     }
 }

@@ -3,8 +3,9 @@
 #![tactic(auto)]
 
 use account::entry::{Entry, Step};
-use account::makes::{ENTRIES, run_bits, run_list};
+use account::makes::{run_bits, run_list};
 use records::kinds::Consent;
+use records::record::Pair;
 use std::io;
 
 fn consent(owner: u16, purpose: u16, data_type: u16) -> Consent {
@@ -16,7 +17,7 @@ fn consent(owner: u16, purpose: u16, data_type: u16) -> Consent {
 }
 
 fn entry(step: Step) -> Entry {
-    Entry { step, answer: 0 }
+    Entry { step, answer: None }
 }
 
 fn give(owner: u16, purpose: u16, data_type: u16) -> Entry {
@@ -32,10 +33,10 @@ fn ask(owner: u16, purpose: u16, data_type: u16) -> Entry {
 }
 
 fn strike(purpose: u16, data_type: u16) -> Entry {
-    entry(Step::Strike { purpose, data_type })
+    entry(Step::Strike(Pair { purpose, data_type }))
 }
 
-fn calls() -> [Entry; ENTRIES] {
+fn calls() -> [Entry; 32] {
     [
         give(3, 2, 1),
         give(3, 2, 1),
@@ -72,64 +73,28 @@ fn calls() -> [Entry; ENTRIES] {
     ]
 }
 
-fn word(answer: u8) -> &'static str {
-    if answer == 0 { "no" } else { "yes" }
-}
-
 // One line: the call, and its answer from each register.
-fn show(rt: HostRuntime, bits: Entry, list: Entry, short: Entry) -> io::Result<()> {
-    let a = bits.answer;
-    let b = list.answer;
-    let c = short.answer;
-    match bits.step {
-        Step::Give(
-            Consent {
-                owner,
-                purpose,
-                data_type,
-            },
-        ) => { println!(rt; "give {owner} {purpose} {data_type}: {a} {b} {c}") }
-        Step::Withdraw(
-            Consent {
-                owner,
-                purpose,
-                data_type,
-            },
-        ) => { println!(rt; "withdraw {owner} {purpose} {data_type}: {a} {b} {c}") }
-        Step::Erase(owner) => println!(rt; "erase {owner}: {a} {b} {c}"),
-        Step::Strike { purpose, data_type } => {
-            println!(rt; "strike {purpose} {data_type}: {a} {b} {c}")
-        }
-        Step::Ask(
-            Consent {
-                owner,
-                purpose,
-                data_type,
-            },
-        ) => {
-            let a = word(a);
-            let b = word(b);
-            let c = word(c);
-            println!(rt; "owner {owner} holds {purpose} {data_type}: {a} {b} {c}")
-        }
+fn show(rt: HostRuntime, bits: &Entry, list: &Entry, short: &Entry) -> io::Result<()> {
+    if let (Some(a), Some(b), Some(c)) = (bits.answer, list.answer, short.answer) {
+        let step = bits.step;
+        println!(rt; "{step}: {a} {b} {c}")?;
     }
+    Ok(())
 }
 
 fn main(rt: HostRuntime) -> io::Result<()> {
     let mut bits = calls();
+    let mut list = calls();
+    let mut short = calls();
     run_bits(&mut bits);
     let mut many = [consent(0, 0, 0); 32_768];
     let mut few = [consent(0, 0, 0); 256];
-    let list = run_list(&mut many, calls());
-    let short = run_list(&mut few, calls());
-    match (list, short) {
-        (Ok(list), Ok(short)) => {
-            println!(rt; "registers: bits, list of 32768 places, list of 256 places")?;
-            for at in 0..ENTRIES {
-                show(rt, bits[at], list[at], short[at])?;
-            }
-            println!(rt; "end")
-        }
-        _ => println!(rt; "too few places"),
+    if run_list(&mut many, &mut list).is_err() || run_list(&mut few, &mut short).is_err() {
+        return println!(rt; "too few places");
     }
+    println!(rt; "registers: bits, list of 32768 places, list of 256 places")?;
+    for ((bits, list), short) in bits.iter().zip(&list).zip(&short) {
+        show(rt, bits, list, short)?;
+    }
+    println!(rt; "end")
 }

@@ -8,29 +8,19 @@ use register::fault::RegisterFault;
 use register::register::ConsentRegister;
 
 // Gives a consent: no other owner can tell.
-pub fn give<R: ConsentRegister>(
-    register: &mut R,
-    owner: u16,
-    purpose: u16,
-    data_type: u16,
-) -> Result<(), RegisterFault>
-    ensures answer { answer_number result ≡ give_answer (R.ConsentRegister.meaning register.old) owner purpose data_type }
-    ensures others { AlikeToOthers owner (R.ConsentRegister.meaning register.old) (R.ConsentRegister.meaning register.new) }
+pub fn give<R: ConsentRegister>(register: &mut R, consent: Consent) -> Result<(), RegisterFault>
+    ensures answer { answer_number result ≡ give_answer (R.ConsentRegister.meaning register.old) consent.owner consent.purpose consent.data_type }
+    ensures others { AlikeToOthers consent.owner (R.ConsentRegister.meaning register.old) (R.ConsentRegister.meaning register.new) }
 {
-    register.give(owner, purpose, data_type)
+    register.give(consent)
 }
 
 // Withdraws a consent: no other owner can tell.
-pub fn withdraw<R: ConsentRegister>(
-    register: &mut R,
-    owner: u16,
-    purpose: u16,
-    data_type: u16,
-) -> Result<(), RegisterFault>
-    ensures answer { answer_number result ≡ withdraw_answer (R.ConsentRegister.meaning register.old) owner purpose data_type }
-    ensures others { AlikeToOthers owner (R.ConsentRegister.meaning register.old) (R.ConsentRegister.meaning register.new) }
+pub fn withdraw<R: ConsentRegister>(register: &mut R, consent: Consent) -> Result<(), RegisterFault>
+    ensures answer { answer_number result ≡ withdraw_answer (R.ConsentRegister.meaning register.old) consent.owner consent.purpose consent.data_type }
+    ensures others { AlikeToOthers consent.owner (R.ConsentRegister.meaning register.old) (R.ConsentRegister.meaning register.new) }
 {
-    register.withdraw(owner, purpose, data_type)
+    register.withdraw(consent)
 }
 
 // What two gives were answered.
@@ -44,7 +34,7 @@ pub fn give_both<R: ConsentRegister>(register: &mut R, first: Consent, second: C
     ensures first { answer_number result.first ≡ give_answer (R.ConsentRegister.meaning register.old) first.owner first.purpose first.data_type }
     ensures second { (second.owner ≢ first.owner) → answer_number result.second ≡ give_answer (R.ConsentRegister.meaning register.old) second.owner second.purpose second.data_type }
 {
-    let first = give(register, first.owner, first.purpose, first.data_type);
-    let second = give(register, second.owner, second.purpose, second.data_type);
+    let first = give(register, first);
+    let second = give(register, second);
     BothGiven { first, second }
 }

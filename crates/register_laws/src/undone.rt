@@ -3,21 +3,20 @@ ghost use Rattle.std.specs.Prelude.{◌≡◌};
 ghost use Rattle.register.specs.Answers.{answer_number, give_answer};
 ghost use Rattle.register_laws.specs.Owners.{HoldsNothing};
 
+use records::kinds::Consent;
 use register::fault::RegisterFault;
 use register::register::ConsentRegister;
 
 // Gives a consent and withdraws it again: the register is as it was, and what was given is never refused its withdrawal.
 pub fn give_then_withdraw<R: ConsentRegister>(
     register: &mut R,
-    owner: u16,
-    purpose: u16,
-    data_type: u16,
+    consent: Consent,
 ) -> Result<(), RegisterFault>
-    ensures answer { answer_number result ≡ give_answer (R.ConsentRegister.meaning register.old) owner purpose data_type }
+    ensures answer { answer_number result ≡ give_answer (R.ConsentRegister.meaning register.old) consent.owner consent.purpose consent.data_type }
     ensures left { R.ConsentRegister.meaning register.new ≡ R.ConsentRegister.meaning register.old }
 {
-    register.give(owner, purpose, data_type)?;
-    register.withdraw(owner, purpose, data_type)
+    register.give(consent)?;
+    register.withdraw(consent)
 }
 
 // Erases every owner: the register then holds nothing.
@@ -28,5 +27,4 @@ pub fn erase_all<R: ConsentRegister>(register: &mut R)
     for owner in 0..128u16 {
         register.erase(owner);
     }
-    register.stands();
 }

@@ -4,9 +4,11 @@
 #[cfg(test)]
 mod tests {
     use records::kinds::Consent;
+    use records::record::Pair;
     use register::bit_register::BitRegister;
     use register::fault::RegisterFault;
     use register::lent::Lent;
+    use register::list_register::ListRegister;
     use register::open::{Job, open_list};
     use register::register::ConsentRegister;
 
@@ -20,44 +22,56 @@ mod tests {
         }
     }
 
+    fn consent(owner: u16, purpose: u16, data_type: u16) -> Consent {
+        Consent {
+            owner,
+            purpose,
+            data_type,
+        }
+    }
+
+    fn pair(purpose: u16, data_type: u16) -> Pair {
+        Pair { purpose, data_type }
+    }
+
     // One table of calls, for whichever make.
     fn answers_of<R: ConsentRegister>(register: &mut R) -> [u8; 12] {
         [
-            number(register.give(3, 2, 1)),
-            number(register.give(3, 2, 1)),
-            number(register.give(128, 0, 0)),
-            number(register.give(0, 16, 0)),
-            number(register.give(0, 0, 16)),
-            number(register.withdraw(3, 2, 2)),
-            number(register.withdraw(128, 0, 0)),
-            number(register.give(127, 15, 15)),
-            number(register.give(4, 2, 1)),
-            number(register.withdraw(3, 2, 1)),
-            number(register.withdraw(3, 2, 1)),
-            number(register.give(3, 2, 1)),
+            number(register.give(consent(3, 2, 1))),
+            number(register.give(consent(3, 2, 1))),
+            number(register.give(consent(128, 0, 0))),
+            number(register.give(consent(0, 16, 0))),
+            number(register.give(consent(0, 0, 16))),
+            number(register.withdraw(consent(3, 2, 2))),
+            number(register.withdraw(consent(128, 0, 0))),
+            number(register.give(consent(127, 15, 15))),
+            number(register.give(consent(4, 2, 1))),
+            number(register.withdraw(consent(3, 2, 1))),
+            number(register.withdraw(consent(3, 2, 1))),
+            number(register.give(consent(3, 2, 1))),
         ]
     }
 
     // What is held after these calls, after an erasure and after a strike.
     fn held_after<R: ConsentRegister>(register: &mut R) -> [bool; 8] {
-        let before = register.holds(4, 2, 1);
+        let before = register.holds(consent(4, 2, 1));
         register.erase(4);
         register.erase(128);
-        let erased = register.holds(4, 2, 1);
-        let other = register.holds(3, 2, 1);
-        register.strike(16, 1);
-        register.strike(2, 16);
-        let out_of_range = register.holds(3, 2, 1);
-        register.strike(2, 1);
+        let erased = register.holds(consent(4, 2, 1));
+        let other = register.holds(consent(3, 2, 1));
+        register.strike(pair(16, 1));
+        register.strike(pair(2, 16));
+        let out_of_range = register.holds(consent(3, 2, 1));
+        register.strike(pair(2, 1));
         [
             before,
             erased,
             other,
             out_of_range,
-            register.holds(3, 2, 1),
-            register.holds(127, 15, 15),
-            register.holds(128, 0, 0),
-            register.holds(127, 15, 14),
+            register.holds(consent(3, 2, 1)),
+            register.holds(consent(127, 15, 15)),
+            register.holds(consent(128, 0, 0)),
+            register.holds(consent(127, 15, 14)),
         ]
     }
 
@@ -92,17 +106,9 @@ mod tests {
             self.limit = register.limit();
             self.answers = answers_of(&mut register);
             self.held = held_after(&mut register);
-            let _ = register.give(127, 15, 14);
-            self.third = number(register.give(127, 15, 13));
-            self.neighbour = number(register.give(126, 15, 13));
-        }
-    }
-
-    fn blank() -> Consent {
-        Consent {
-            owner: 0,
-            purpose: 0,
-            data_type: 0,
+            let _ = register.give(consent(127, 15, 14));
+            self.third = number(register.give(consent(127, 15, 13)));
+            self.neighbour = number(register.give(consent(126, 15, 13)));
         }
     }
 
@@ -124,7 +130,7 @@ mod tests {
 
     #[test]
     fn a_list_follows_the_table(rt: HostRuntime) {
-        let mut places = [blank(); 384];
+        let mut places = [consent(0, 0, 0); 384];
         let mut job = not_begun();
         assert!(rt; open_list(&mut places, &mut job).is_ok());
         assert_eq!(rt; job.limit, 3);
@@ -136,7 +142,7 @@ mod tests {
 
     #[test]
     fn full_is_an_owner_s_own_affair(rt: HostRuntime) {
-        let mut places = [blank(); 383];
+        let mut places = [consent(0, 0, 0); 383];
         let mut job = not_begun();
         assert!(rt; open_list(&mut places, &mut job).is_ok());
         assert_eq!(rt; job.limit, 2);
@@ -148,9 +154,27 @@ mod tests {
 
     #[test]
     fn too_few_places_are_refused(rt: HostRuntime) {
-        let mut places = [blank(); 127];
+        let mut places = [consent(0, 0, 0); 127];
         let mut job = not_begun();
         assert_eq!(rt; number(open_list(&mut places, &mut job)), 13);
         assert_eq!(rt; job.limit, 0);
+    }
+
+    #[test]
+    fn a_list_at_hand_follows_the_table(rt: HostRuntime) {
+        let mut places = [consent(0, 0, 0); 384];
+        match ListRegister::new(&mut places) {
+            Ok(made) => {
+                let mut register = made;
+                assert_eq!(rt; register.limit(), 3);
+                assert_eq!(rt; answers_of(&mut register), ANSWERS);
+                assert_eq!(rt; held_after(&mut register), HELD);
+            }
+            Err(_) => assert!(rt; false),
+        }
+        assert_eq!(rt;
+            ListRegister::new(&mut places[..127]).err(),
+            Some(RegisterFault::Full)
+        );
     }
 }

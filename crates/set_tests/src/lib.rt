@@ -6,7 +6,7 @@ mod tests {
     use bits::set::TypeSet;
     use bits::set::{RoleSet, SessionSet};
     use records::kinds::{Consent, PlainGrant, PrivateGrant};
-    use records::record::Thing;
+    use records::record::{Pair, Thing};
     use records::set::{RecordSet, SetFault};
 
     #[test]
@@ -101,10 +101,10 @@ mod tests {
             );
         }
         set.strike(Thing::Owner(8));
-        set.strike(Thing::Pair {
+        set.strike(Thing::Pair(Pair {
             purpose: 2,
             data_type: 8,
-        });
+        }));
         assert_eq!(rt; set.len(), 6);
         set.strike(Thing::Object(9));
         assert_eq!(rt; set.len(), 3);
@@ -146,10 +146,10 @@ mod tests {
         set.strike(Thing::Role(2));
         set.strike(Thing::Object(2));
         assert_eq!(rt; set.len(), 8);
-        set.strike(Thing::Pair {
+        set.strike(Thing::Pair(Pair {
             purpose: 2,
             data_type: 5,
-        });
+        }));
         assert_eq!(rt; set.len(), 4);
         set.strike(Thing::Owner(3));
         assert_eq!(rt; set.len(), 3);

@@ -1,6 +1,11 @@
 use Rattle.std.proofs.Common.{◌≡◌}
-use Rattle.account.proofs.Firsts.{first_answered, after_first}
+use Rattle.vocabulary.proofs.Runs.{first_answered, after_first}
+use Rattle.account.specs.Steps.{after_entry, with_answer}
 use Rattle.account.proofs.run.run.Given as goal
 
-abbrev pub invariant-loop-at : goal.invariant-loop-at
-invariant-loop-at g l = (l.entries ≡ first_answered l.at (g.R.ConsentRegister.meaning l.initial.register) l.initial.entries) × (g.R.ConsentRegister.meaning l.register ≡ after_first l.at (g.R.ConsentRegister.meaning l.initial.register) l.initial.entries)
+abbrev pub invariant-loop-entry : goal.invariant-loop-entry
+invariant-loop-entry g l =
+    record {
+      answers : l.entry-items ≡ first_answered with_answer after_entry l.entry-index (g.R.ConsentRegister.meaning l.fn.register) l.fn.entries;
+      left : g.R.ConsentRegister.meaning l.register ≡ after_first after_entry l.entry-index (g.R.ConsentRegister.meaning l.fn.register) l.fn.entries;
+    }

@@ -6,4 +6,4 @@ use Rattle.register_laws.proofs.owners.withdraw.Goals as goal
 pub returns : goal.returns
 returns g c =
     let r = c.withdraw.ensures in
-    record { answer = r.answer; others = subst (AlikeToOthers c.args.owner _) (sym r.left) (withdraw_alike _ c.args.owner c.args.purpose c.args.data_type) }
+    record { answer = r.answer; others = subst (AlikeToOthers c.args.consent.owner _) (sym r.left) (withdraw_alike _ c.args.consent.owner c.args.consent.purpose c.args.consent.data_type) }

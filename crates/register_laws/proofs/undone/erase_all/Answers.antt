@@ -16,6 +16,6 @@ loop-owner-preserved g c =
 pub returns : goal.returns
 returns g c =
     record {
-      none = all_out (g.R.ConsentRegister.meaning c.loop-owner.register) c.loop-owner.owner (omega arith) c.stands.ensures c.loop-owner.invariant.0;
+      none = all_out (g.R.ConsentRegister.meaning c.loop-owner.register) c.loop-owner.owner (omega arith) (g.met.R.ConsentRegister.sound c.loop-owner.register) c.loop-owner.invariant.0;
       limit = c.loop-owner.invariant.1;
     }

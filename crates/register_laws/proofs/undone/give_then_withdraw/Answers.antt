@@ -6,9 +6,9 @@ use Rattle.register_laws.proofs.undone.give_then_withdraw.Goals as goal
 pub returns : goal.returns
 returns g c =
     let m = g.R.ConsentRegister.meaning c.args.register.now in
-    let o = c.args.owner in
-    let q = c.args.purpose in
-    let t = c.args.data_type in
+    let o = c.args.consent.owner in
+    let q = c.args.consent.purpose in
+    let t = c.args.consent.data_type in
     let w = c.withdraw.ensures in
     let left = c.give.ensures.left in
     let given : give_answer m o q t ≡ 0 = sym c.in_ok-give.ensures.answer in

@@ -7,7 +7,7 @@ use records::kinds::Consent;
 use records::record::Pair;
 use register::fault::RegisterFault;
 
-// A call on a register.
+// A call on a register. An enum and no closures: calls are compared, printed, and read by the specification.
 #[derive(Clone, Copy, PartialEq, Eq, Debug)]
 pub enum Step {
     Give(Consent),

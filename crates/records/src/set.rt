@@ -13,7 +13,7 @@ pub enum SetFault {
 }
 
 // The first `count` places of a slice that the caller provides, of which at most `cap` are used. Places past the count
-// are free.
+// are free. A count stands beside the places and no `Vec`: a set has no heap, and its places are the caller's.
 #[derive(Drop)]
 pub struct RecordSet<'a, T: Record> {
     pub(crate) places: &'a mut [T],

@@ -9,7 +9,7 @@ use crate::list_register::ListRegister;
 use crate::register::ConsentRegister;
 use records::kinds::Consent;
 
-// What is done with a register, whatever its make.
+// What is done with a register, whatever its make. A trait and no closure: its call is generic in the register.
 pub trait Job {
     // what the job makes of itself over a register of this meaning
     ghost done: { Self → Register → Self → Type 0 };

@@ -24,6 +24,7 @@ pub fn erase_all<R: ConsentRegister>(register: &mut R)
     ensures none { HoldsNothing (R.ConsentRegister.meaning register.new) }
     ensures limit { (R.ConsentRegister.meaning register.new).limit ≡ (R.ConsentRegister.meaning register.old).limit }
 {
+    // Owners are numbers: there is nothing to walk along.
     for owner in 0..128u16 {
         register.erase(owner);
     }

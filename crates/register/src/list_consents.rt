@@ -64,7 +64,8 @@ impl<'a> ConsentRegister for ListRegister<'a> {
         if self.set.contains(&consent) {
             return Err(RegisterFault::AlreadyGiven);
         }
-        if self.count(consent.owner) >= self.limit() as usize {
+        let limit = self.limit() as usize;
+        if self.count(consent.owner) >= limit {
             return Err(RegisterFault::Full);
         }
         // It finds a place: the owner is under the limit.

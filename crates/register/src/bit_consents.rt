@@ -8,7 +8,7 @@ use crate::bit_register::BitRegister;
 use crate::fault::RegisterFault;
 use crate::ranges::in_range;
 use crate::register::ConsentRegister;
-use bits::narrow::TypeSet;
+use bits::set::TypeSet;
 use records::kinds::Consent;
 use records::record::Pair;
 

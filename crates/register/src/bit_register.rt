@@ -1,6 +1,6 @@
 ghost use Rattle.register.specs.BitRows.{Wide};
 
-use bits::narrow::TypeSet;
+use bits::set::TypeSet;
 
 // One bit for each consent: for each owner and each purpose a set of data types. It is never full.
 #[derive(Drop)]

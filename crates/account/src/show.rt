@@ -1,9 +1,14 @@
 // How a call and its answer are printed.
+ghost use Rattle.std.specs.Prelude.{Some};
+ghost use Rattle.account.specs.Texts.{step_text, answer_text};
+
 use crate::entry::{Answer, Step};
 use records::kinds::Consent;
 use std::fmt;
 
 impl fmt::Display for Step {
+    ghost output = { λ s. Some (step_text s) };
+
     fn fmt<W: fmt::Write>(&self, f: &mut fmt::Formatter<W>) -> fmt::Result {
         match *self {
             Step::Give(
@@ -35,6 +40,8 @@ impl fmt::Display for Step {
 
 // A change shows its number, and a question yes or no.
 impl fmt::Display for Answer {
+    ghost output = { λ a. Some (answer_text a) };
+
     fn fmt<W: fmt::Write>(&self, f: &mut fmt::Formatter<W>) -> fmt::Result {
         match self {
             Answer::Change(_) => write!(f, "{}", self.number()),

@@ -27,7 +27,8 @@ pub fn apply<R: ConsentRegister>(register: &mut R, step: Step) -> Answer
     }
 }
 
-// Makes the calls of the entries in their order and puts each answer into its entry.
+// Makes the calls of the entries in their order and puts each answer into its entry. The runs of other crates go over calls
+// of other kinds and promise other things: what they share is in `vocabulary`, the words and the lemmas of runs.
 pub fn run<R: ConsentRegister>(register: &mut R, entries: &mut [Entry])
     ensures answers { entries.new ≡ answered (R.ConsentRegister.meaning register.old) entries.old }
     ensures numbers { map entry_number entries.new ≡ numbers (R.ConsentRegister.meaning register.old) entries.old }

@@ -7,7 +7,8 @@ use crate::word::Word;
 use std::marker::PhantomData;
 
 // A set over the numbers from 0 to the last bit of the word. K says what is numbered, and keeps sets of roles and sets of
-// sessions apart.
+// sessions apart. Clauses name its members by `members_by`: an `impl Model` could not use the number of a word, which is a
+// member of the bound.
 #[derive_where(Clone, Copy; W)]
 #[derive_where(PartialEq, Eq; W)]
 pub struct BitSet<W, K> {

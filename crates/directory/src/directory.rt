@@ -2,6 +2,7 @@ use crate::session::Session;
 use bits::set::RoleSet;
 use hierarchy::hierarchy::Hierarchy;
 
+// Clauses read it by `state_of`, since the value of an `impl Model` cannot have functions in it.
 #[derive(Drop)]
 pub struct Directory {
     // the roles that each user is assigned to; none where there is no such user

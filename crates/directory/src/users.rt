@@ -1,4 +1,5 @@
-// The calls on users and their assignments.
+// The calls on users and their assignments. A user and a role, as a session and a role or two roles, are numbers of a
+// command with a question for each: a struct for the two would be made at each call only to be taken apart there.
 ghost use Rattle.std.specs.Prelude.{◌≡◌, IfOk};
 ghost use Rattle.bits.specs.Sets.{members};
 ghost use Rattle.directory.specs.Answers.{answer_number, answer_ends, user_and_role_answer, add_user_answer, delete_user_answer, assign_answer, deassign_answer, authorised_answer};

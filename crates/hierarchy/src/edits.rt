@@ -1,4 +1,5 @@
-// Edits of a hierarchy: each takes it by value and gives the edited one back whole.
+// Edits of a hierarchy: each takes it by value and gives the edited one back whole. A pair is two numbers, the senior first,
+// as in every definition: a struct would be made at each call only to be taken apart there.
 ghost use Rattle.std.specs.Prelude.{◌≡◌, ℕ, ◌<◌, true, false, ◌&&◌, ◌||◌, IfOk, Decides, ◌==◌};
 ghost use Rattle.hierarchy.specs.Inheritance.{pairs_in};
 ghost use Rattle.hierarchy.specs.Edits.{edit_number, in_range, add_answer, remove_answer, put_pair, without_role};

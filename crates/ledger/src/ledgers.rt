@@ -12,7 +12,7 @@ use crate::permit::PermitNumber;
 use crate::place::{Closing, Use, Which};
 use bits::set::SessionSet;
 
-// One ledger for each owner number.
+// One ledger for each owner number. Clauses read it by `ledgers_of`, since the value of an `impl Model` cannot be a function.
 #[derive(Drop)]
 pub struct Ledgers {
     all: [Ledger; 128],

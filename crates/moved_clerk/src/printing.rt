@@ -3,6 +3,7 @@ use bits::set::SessionSet;
 use directory_laws::turn::Turn;
 use std::io;
 
+// No `Display` of a turn: what a loop of `write!`s shows could not be said in its contract.
 fn print_ended(rt: HostRuntime, ended: SessionSet) -> io::Result<()> {
     for session in 0..64u16 {
         if ended.contains(session) {

@@ -1,25 +1,12 @@
 -- An answer changes its own entry's answer and nothing else.
-use Rattle.std.proofs.Common.{◌≡◌, ℕ, ◌+◌, ◌-◌, ◌*◌, ◌/◌, ◌%◌, cond, not, eqb, ltb, leb, List, ◌∷◌, ◌++◌, length, take, drop, set, ap, ◌∙◌, arith, length-set}
+use Rattle.std.proofs.Common.{◌≡◌, ℕ, ◌+◌, ◌/◌, ◌%◌, List, ◌∷◌, ◌++◌, length, drop, set, ap, ◌∙◌, arith, length-set}
 use Rattle.std.proofs.lemmas.List.{drop-drop, set-append_right}
 use Rattle.std.proofs.lemmas.Grind.{common_steps}
-use Rattle.calls.specs.Layout.{known, field_count}
 use Rattle.book.specs.Format.{answered}
-use Rattle.book.specs.Reading.{Found, ends, faulty, found, reading}
+use Rattle.book.specs.Reading.{reading}
 use Rattle.book.specs.Tiling.{Entry, entry_bytes, book_bytes, Tiles, AnswersAlone}
 use Rattle.book.proofs.Words.{word_drop}
 use Rattle.book.proofs.Tiling.{book_bytes_append}
-
--- a reading by the book's length, the two words that it looks at, and the bytes behind the answer field
-abbrev reading_by : ℕ → ℕ → ℕ → ℕ → List ℕ → Found
-reading_by n at size kind rest =
-    cond (ltb 65536 n) (faulty 20)
-    (cond (leb n at) ends
-    (cond (ltb (n - at) 6) (faulty 21)
-    (cond (ltb size 6) (faulty 21)
-    (cond (ltb (n - at) size) (faulty 21)
-    (cond (not (known kind)) (faulty 22)
-    (cond (not (eqb size (6 + 2 * field_count kind))) (faulty 23)
-    (found kind (take (size - 6) rest))))))))
 
 -- what stands at a place depends only on the book's length and on the bytes from there on
 pub reading_from : (bs cs : List ℕ) (at : ℕ) → length cs ≡ length bs → drop at cs ≡ drop at bs → reading cs at ≡ reading bs at

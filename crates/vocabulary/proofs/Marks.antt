@@ -1,7 +1,7 @@
 -- Marks that a loop over the numbers sets, one number after another.
-use Rattle.std.proofs.Common.{◌≡◌, ℕ, ◌+◌, ◌≤◌, Bool, true, false, ltb, ap, ◌∙◌, inl, inr, arith}
+use Rattle.std.proofs.Common.{◌≡◌, ℕ, ◌+◌, Bool, true, false, ltb, ap, ◌∙◌, inl, inr, arith}
 use mathlib.Core.Path.{fun_ext}
-use Rattle.std.proofs.lemmas.Bool.{cases_eq, cases_lt, eq-eqb, ne_eqb, lt-ltb, le-ltb}
+use Rattle.std.proofs.lemmas.Bool.{cases_eq, eq-eqb, ne_eqb, lt-ltb, le-ltb}
 use Rattle.std.proofs.lemmas.Bool.Decides.{nat_tests}
 use Rattle.bits.specs.Tables.{put}
 use Rattle.vocabulary.specs.Tables.{so_far}
@@ -22,14 +22,3 @@ marks_no p i e =
       | inl q ↦ let b : p k ≡ false = ap p q ∙ e in grind (arith, nat_tests)
       | inr n ↦ grind (arith, nat_tests)
     ])
-
-pub marks_all : (p : ℕ → Bool) (n : ℕ) → ((k : ℕ) → n ≤ k → p k ≡ false) → so_far p n ≡ p
-marks_all p n past =
-    fun_ext (λ k. elim (cases_lt k n) [
-      | inl l ↦ let e = lt-ltb k n l in simp e
-      | inr g ↦ let e = le-ltb k n g in let f = past k g in simp (e, f)
-    ])
-
--- a number is not marked before its turn
-pub marks_not_yet : (p : ℕ → Bool) (i : ℕ) → so_far p i i ≡ false
-marks_not_yet p i = let e : ltb i i ≡ false = le-ltb i i (omega arith) in simp e

@@ -1,5 +1,5 @@
 -- Lists of events, one event on.
-use Rattle.std.proofs.Common.{◌≡◌, ℕ, zero, suc, ◌+◌, ◌<◌, ◌≤◌, Bool, false, ◌&&◌, ltb, leb, List, [], ◌∷◌, reverse, length, get_or, take, is_some, Option, sym, refl, ap, ◌∙◌, subst, inl, inr, arith}
+use Rattle.std.proofs.Common.{◌≡◌, ℕ, zero, suc, ◌+◌, ◌<◌, ◌≤◌, Bool, false, ◌&&◌, ltb, leb, List, [], ◌∷◌, ◌++◌, reverse, length, get_or, take, is_some, Option, sym, refl, ap, ◌∙◌, subst, inl, inr, append-nil, arith}
 use mathlib.Core.List.{reverse-append}
 use Rattle.std.proofs.lemmas.List.{take_more}
 use Rattle.std.proofs.lemmas.Bool.{cases_eq, cases_lt, le-ltb}
@@ -9,8 +9,9 @@ use Rattle.bits.specs.Tables.{put}
 use Rattle.vocabulary.proofs.Puts.{put_here, put_other}
 use Rattle.ledger.specs.Places.{usage_in, permits_of}
 use Rattle.ledger.specs.States.{LedgerState, empty_ledger, drawn, closed, Sound}
-use Rattle.ledger.specs.Table.{Table, known, close_asked}
+use Rattle.ledger.specs.Table.{Table, ledgers_of, bare_ledgers, known, close_asked}
 use Rattle.ledger.specs.declared.place.Closing.TheVariants.{Lapse}
+use Rattle.ledger.specs.declared.ledgers.Ledgers.{Ledgers}
 use Rattle.ledger.specs.declared.place.Use.{Use}
 use Rattle.ledger.specs.declared.place.Which.TheVariants.{Serial, All}
 use Rattle.ledger_laws.specs.Events.{call_answer, event_left}
@@ -57,22 +58,28 @@ event_grows (Of k (Close n c)) f o = grows_put _ k (closed c (permits_of (Serial
 event_grows (Of k LapseAll) f o = grows_put _ k (closed Lapse (permits_of All) (f k)) f o (omega arith)
 event_grows (SessionsEnd ended) f o = omega arith
 
-account_more : (o : ℕ) (es : List LedgerEvent) (i : ℕ) (d : LedgerEvent) → i < length es → account o (reverse (take (i + 1) es)) ≡ step o (get_or es i d) (account o (reverse (take i es)))
+account_more : (o : ℕ) (before es : List LedgerEvent) (i : ℕ) (d : LedgerEvent) → i < length es → account o (reverse (take (i + 1) es) ++ before) ≡ step o (get_or es i d) (account o (reverse (take i es) ++ before))
 unfolding account
-account_more o es i d lt =
-    ap (λ (xs : List LedgerEvent). account o (reverse xs)) (take_more es i d lt)
-    ∙ ap (account o) (reverse-append (take i es) (get_or es i d ∷ []))
+account_more o before es i d lt =
+    ap (λ (xs : List LedgerEvent). account o (reverse xs ++ before)) (take_more es i d lt)
+    ∙ ap (λ (xs : List LedgerEvent). account o (xs ++ before)) (reverse-append (take i es) (get_or es i d ∷ []))
 
 -- the events before i left f, and the event at i leaves g
 module _ (es : List LedgerEvent) (i : ℕ) (d : LedgerEvent) (f g : Table) (lt : i < length es) (next : g ≡ event_left (get_or es i d) f) where
   pub grows_more : (o : ℕ) → (f o).issued ≤ (g o).issued
   grows_more o = subst (λ (h : Table). (f o).issued ≤ (h o).issued) (sym next) (event_grows (get_or es i d) f o)
 
-  pub accounted_more : (o : ℕ) → o < 128 → Sound (f o) → Sound (g o) → Accounted (account o (reverse (take i es))) (f o) → Accounted (account o (reverse (take (i + 1) es))) (g o)
-  accounted_more o within_range sound after acc =
-      subst (λ (a : Account). Accounted a (g o)) (sym (account_more o es i d lt))
-      (subst (λ (h : Table). Accounted (step o (get_or es i d) (account o (reverse (take i es)))) (h o)) (sym next)
-      (event_accounted o within_range (account o (reverse (take i es))) f sound acc (get_or es i d) (subst (λ (h : Table). Sound (h o)) next after)))
+  pub accounted_more : (o : ℕ) (before : List LedgerEvent) → o < 128 → Sound (f o) → Sound (g o) → Accounted (account o (reverse (take i es) ++ before)) (f o) → Accounted (account o (reverse (take (i + 1) es) ++ before)) (g o)
+  accounted_more o before within_range sound after acc =
+      subst (λ (a : Account). Accounted a (g o)) (sym (account_more o before es i d lt))
+      (subst (λ (h : Table). Accounted (step o (get_or es i d) (account o (reverse (take i es) ++ before))) (h o)) (sym next)
+      (event_accounted o within_range (account o (reverse (take i es) ++ before)) f sound acc (get_or es i d) (subst (λ (h : Table). Sound (h o)) next after)))
+
+-- from bare ledgers, an account that goes on over the events is the account of the events
+pub from_bare : (es : List LedgerEvent) (was made : Ledgers) → ledgers_of was ≡ bare_ledgers → ((o : ℕ) (before : List LedgerEvent) → o < 128 → Accounted (account o before) (ledgers_of was o) → Accounted (account o (reverse es ++ before)) (ledgers_of made o)) → (o : ℕ) → o < 128 → Accounted (account o (reverse es)) (ledgers_of made o)
+from_bare es was made bare goes_on o lt =
+    subst (λ (events : List LedgerEvent). Accounted (account o events) (ledgers_of made o)) (append-nil (reverse es))
+    (goes_on o [] lt (subst (λ (h : Table). Accounted (account o []) (h o)) (sym bare) (none_accounted o)))
 
 -- what the account answers, the ledger answers
 pub answer_told : (o : ℕ) (call : OwnerCall) (a : Account) (f : Table) → (o < 128 → Accounted a (f o)) → call_answer o call f ≡ account_answer o call a

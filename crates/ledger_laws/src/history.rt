@@ -5,19 +5,16 @@ ghost use Rattle.ledger.specs.Table.{ledgers_of};
 ghost use Rattle.ledger_laws.specs.Fates.{account, Accounted, account_answer};
 
 use crate::event::{LedgerEvent, OwnerCall};
-use crate::run::{apply, call};
+use crate::run::{call, run};
 use ledger::fault::LedgerFault;
 use ledger::ledgers::Ledgers;
 
-// Lets the events happen, in their order. The ledger of every owner is then as the account of the events has it. A loop of
-// its own and not `run`: that the account holds is proved event by event, from what the type tells of the ledgers there.
+// Lets the events happen, in their order. The ledger of every owner is then as the account of the events has it.
 pub fn history(events: &[LedgerEvent]) -> Ledgers
     ensures { (o : ℕ) → o < 128 → Accounted (account o (reverse events.now)) (ledgers_of result o) }
 {
     let mut ledgers = Ledgers::new();
-    for event in events {
-        let _ = apply(&mut ledgers, *event);
-    }
+    run(&mut ledgers, events);
     ledgers
 }
 

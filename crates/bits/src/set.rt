@@ -9,11 +9,10 @@ use std::marker::PhantomData;
 // A set over the numbers from 0 to the last bit of the word. K says what is numbered, and keeps sets of roles and sets of
 // sessions apart. Clauses name its members by `members_by`: an `impl Model` could not use the number of a word, which is a
 // member of the bound.
-#[derive_where(Clone, Copy; W)]
-#[derive_where(PartialEq, Eq; W)]
+#[derive_where(Clone, Copy, PartialEq, Eq, Debug; W)]
 pub struct BitSet<W, K> {
     bits: W,
-    #[derive_where(skip(EqHashOrd))]
+    #[derive_where(skip)]
     of: PhantomData<K>,
 }
 
@@ -31,6 +30,8 @@ pub type SessionSet = BitSet<u64, Session>;
 // Sets over the numbers from 0 to 15.
 pub type TypeSet = BitSet<u16, DataType>;
 
+// What a set is made of and taken apart into, `from_bits`, `bits`, `from_words` and `words`, are calls with these names and
+// no `From`: a caller sees which numbers are meant, and two of them promise two things.
 impl<W: Word, K> BitSet<W, K> {
     // The set whose member n is the bit worth 2^n.
     pub fn from_bits(bits: W) -> BitSet<W, K>
@@ -127,7 +128,7 @@ impl<W: Word, K> BitSet<W, K> {
         self.minus(other).is_empty()
     }
 
-    // Whether the two sets have the same members: they are then the same set.
+    // Whether the two sets have the same members: they are then the same set. It is `==`, with what it means for the members.
     pub fn equals(self, other: BitSet<W, K>) -> bool
         ensures members { Decides result (members_by W.value self ≡ members_by W.value other) }
         ensures same { Decides result (self ≡ other) }

@@ -1,5 +1,5 @@
 // The words that a set keeps its members in.
-ghost use Rattle.std.specs.Prelude.{◌≡◌, ℕ, ◌^◌, ◌<◌, ◌≤◌, ◌==◌};
+ghost use Rattle.std.specs.Prelude.{◌≡◌, ℕ, ◌%◌, ◌^◌, ◌<◌, ◌≤◌, ◌==◌};
 ghost use Rattle.std.proofs.Common.{rules};
 
 // A word of WIDTH bits, read as a number.
@@ -15,10 +15,10 @@ pub trait Word: Copy + Eq {
         ensures value { result ≡ value self }
         ensures fits { result < 2 ^ WIDTH };
 
-    // The word of the number.
+    // The word of the number, of which the bits past the width are left out. The two conversions are calls of this trait and
+    // no `From`: a width has to be said with them.
     fn narrow(bits: u64) -> Self
-        requires { bits < 2 ^ WIDTH }
-        ensures { value result ≡ bits };
+        ensures { value result ≡ bits % 2 ^ WIDTH };
 
     // No word is wider than 64 bits.
     ghost width: { WIDTH ≤ 64 };
@@ -47,7 +47,7 @@ impl Word for u16 {
     }
 
     fn narrow(bits: u64) -> u16 {
-        bits as u16
+        (bits % 65_536) as u16
     }
 }
 

@@ -1,20 +1,25 @@
 // Edits of a hierarchy: each takes it by value and gives the edited one back whole. A pair is two numbers, the senior first,
 // as in every definition: a struct would be made at each call only to be taken apart there.
-ghost use Rattle.std.specs.Prelude.{◌≡◌, ℕ, ◌<◌, true, false, ◌&&◌, ◌||◌, IfOk, Decides, ◌==◌};
+ghost use Rattle.std.specs.Prelude.{◌≡◌, ℕ, ◌<◌, true, false, ◌&&◌, ◌||◌, is_ok, IfOk, IfErr, ◌==◌};
 ghost use Rattle.hierarchy.specs.Inheritance.{pairs_in};
 ghost use Rattle.hierarchy.specs.Edits.{edit_number, in_range, add_answer, remove_answer, put_pair, without_role};
+ghost use Rattle.hierarchy.specs.declared.fault.HierarchyFault.TheVariants.{OutOfRange};
 ghost use Rattle.hierarchy.specs.Laws.{Joined, Cut};
 
 use crate::fault::HierarchyFault;
 use crate::hierarchy::Hierarchy;
 use bits::set::RoleSet;
 
-// Whether both numbers are of roles.
-fn in_range(senior: u16, junior: u16) -> bool
-    ensures value { result ≡ in_range senior junior }
-    ensures both { Decides result ((senior < 64) × (junior < 64)) }
+// Both numbers are of roles, or the pair is refused.
+fn in_range(senior: u16, junior: u16) -> Result<(), HierarchyFault>
+    ensures value { is_ok result ≡ in_range senior junior }
+    ensures both { IfOk result (λ _. (senior < 64) × (junior < 64)) }
+    ensures refused { IfErr result (λ f. f ≡ OutOfRange) }
 {
-    senior < 64 && junior < 64
+    if senior >= 64 || junior >= 64 {
+        return Err(HierarchyFault::OutOfRange);
+    }
+    Ok(())
 }
 
 impl Hierarchy {
@@ -33,9 +38,7 @@ impl Hierarchy {
         ensures left { IfOk result (λ h. pairs_in h.juniors ≡ put_pair senior junior true (pairs_in self.juniors)) }
         ensures above { IfOk result (λ h. Joined (pairs_in self.juniors) senior junior (pairs_in h.juniors)) }
     {
-        if !in_range(senior, junior) {
-            return Err(HierarchyFault::OutOfRange);
-        }
+        in_range(senior, junior)?;
         if self.juniors[senior as usize].contains(junior) {
             return Err(HierarchyFault::AlreadyThere);
         }
@@ -54,9 +57,7 @@ impl Hierarchy {
         ensures left { IfOk result (λ h. pairs_in h.juniors ≡ put_pair senior junior false (pairs_in self.juniors)) }
         ensures above { IfOk result (λ h. Cut (pairs_in self.juniors) (λ x y. (x == senior) && y == junior) (pairs_in h.juniors)) }
     {
-        if !in_range(senior, junior) {
-            return Err(HierarchyFault::OutOfRange);
-        }
+        in_range(senior, junior)?;
         if !self.juniors[senior as usize].contains(junior) {
             return Err(HierarchyFault::NotThere);
         }

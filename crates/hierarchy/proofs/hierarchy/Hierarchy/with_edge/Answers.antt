@@ -11,7 +11,7 @@ use Rattle.hierarchy.proofs.hierarchy.Hierarchy.with_edge.Goals as goal
 use Rattle.hierarchy.proofs.hierarchy.Hierarchy.with_edge.Goals.{After-with}
 
 range : (c : After-with) → (c.args.senior < 64) × (c.args.junior < 64)
-range c = c.in_range.ensures.both.0 c.if-not-in_range.false
+range c = search rules
 
 left : (c : After-with) → pairs_in (set c.args.self.juniors c.args.senior c.with.result) ≡ put_pair c.args.senior c.args.junior true (pairs_in c.args.self.juniors)
 left c =

@@ -9,7 +9,8 @@ pub struct Frame<'a> {
     pub fields: &'a [u8],
 }
 
-// A record by the family of its kind, which its case says: what stands in the book is the same of each.
+// A record by the family of its kind, which its case says: what stands in the book is the same of each. An enum and not a
+// struct with a family: a rule of the project has each family a case that holds the bytes of the book.
 #[derive(Clone, Copy)]
 pub enum Record<'a> {
     Directory(Frame<'a>),
@@ -41,7 +42,7 @@ pub enum Layer {
     Kernel = 2,
 }
 
-// Why a command was refused.
+// Why a command was refused. The number is the format's: which refusals there are is said by the crates above this one.
 #[derive(Clone, Copy, PartialEq, Eq, Debug)]
 pub struct Refusal {
     pub layer: Layer,

@@ -1,5 +1,6 @@
 // The commands, as types: four families, each case with its fields by name.
 // A field holds any 16 bits: whether a number is in range is the kernel's first question.
+// No comparisons and no `Debug`: to derive them takes three quarters of the crate's checking time, and nothing needs them.
 
 // Who there is and what they may do: users, roles, objects, grants and owners.
 #[derive(Clone, Copy)]

@@ -37,7 +37,8 @@ impl Encoded {
     }
 }
 
-// An `encode` for each family, of which no two arms are alike: in one match (tried) each pattern would name two enums.
+// An `encode` for each family: no two arms are alike, so these are tables and no twins. One match over both enums (tried) is
+// as long, and each of its patterns is broken over five lines.
 impl Directory {
     fn encode(self) -> Encoded
         ensures { written result ≡ directory_layout self }
@@ -159,7 +160,8 @@ impl Question {
 }
 
 impl Command {
-    // The kind and the fields by which `from_fields` gives the command back.
+    // The kind and the fields by which `from_fields` gives the command back. The two are a pair of calls with clauses of their
+    // own and no `From` and `TryFrom`, which have one each.
     pub fn encode(self) -> Encoded
         ensures { written result ≡ layout self }
     {

@@ -65,7 +65,7 @@ pub fn field_count(kind: u16) -> Option<usize>
 }
 
 impl Family {
-    // The family of a kind; none where there is no such kind.
+    // The family of a kind; none where there is no such kind. A kind has a family and does not become one: no `TryFrom`.
     pub fn of(kind: u16) -> Option<Family>
         ensures { result ≡ family_of_kind kind }
     {

@@ -3,6 +3,7 @@ use bits::set::RoleSet;
 use hierarchy::hierarchy::Hierarchy;
 
 // Clauses read it by `state_of`, since the value of an `impl Model` cannot have functions in it.
+// Its tables go by number, in fixed memory.
 #[derive(Drop)]
 pub struct Directory {
     // the roles that each user is assigned to; none where there is no such user

@@ -9,7 +9,7 @@ pub struct Session {
 }
 
 // Which sessions are meant: every open one, those of a user, or those with an active role that their user is not
-// authorised for. It stays beside a closure: the contracts say by it which sessions are meant.
+// authorised for. An enum and no closure: the contracts name by it which sessions are meant.
 #[derive(Clone, Copy, PartialEq, Eq, Debug)]
 pub enum Which {
     AllOpen,

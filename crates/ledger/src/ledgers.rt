@@ -15,6 +15,8 @@ use bits::set::SessionSet;
 // One ledger for each owner number. Clauses read it by `ledgers_of`, since the value of an `impl Model` cannot be a function.
 #[derive(Drop)]
 pub struct Ledgers {
+    // by the owner's number, in fixed memory; after the question of range one is lent as `&mut self.all[..]`, a form that is
+    // wanted here
     all: [Ledger; 128],
 }
 

@@ -1,5 +1,6 @@
 // The calls on permits. Each permit that is drawn is spent exactly once: entered, handed back or lapsed. That it was not
-// spent before is the only thing that a call asks of its caller, and that it was is asked where a permit is let go.
+// spent before is the only thing that a call asks of its caller, and that it was is asked where a permit is let go. Each call
+// is that of the ledgers on the permit's number, with the mark set.
 ghost use Rattle.std.specs.Prelude.{◌≡◌, ◌+◌, true, false, IfOk, Some};
 ghost use Rattle.ledger.specs.Answers.{done_answer, permit_answer};
 ghost use Rattle.ledger.specs.Places.{usage_in};

@@ -11,7 +11,7 @@ use ledger::fault::LedgerFault;
 use ledger::ledgers::Ledgers;
 use ledger::place::{Closing, Use};
 
-// The answers of two draws.
+// The answers of two draws. A struct and no tuple: the clause names them.
 pub struct TwoDraws {
     pub first: Result<u16, LedgerFault>,
     pub second: Result<u16, LedgerFault>,

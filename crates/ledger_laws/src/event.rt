@@ -2,7 +2,7 @@
 use bits::set::SessionSet;
 use ledger::place::{Closing, Use};
 
-// What is done for one owner.
+// What is done for one owner. The owner goes beside it and not in it: a run for one owner has many calls of one number.
 #[derive(Clone, Copy)]
 pub enum OwnerCall {
     Draw(Use),

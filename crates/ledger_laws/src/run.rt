@@ -50,8 +50,8 @@ pub fn run(ledgers: &mut Ledgers, events: &[LedgerEvent])
     }
 }
 
-// Makes calls for one owner, in their order. The ledger of every other owner is as it was. A loop of its own and not `run`,
-// whose contract names the slice that its events are in: these calls are not in one, and over any iterator it would be longer.
+// Makes calls for one owner, in their order. The ledger of every other owner is as it was. A loop of its own and not `run` over
+// any iterator of events: that would ask of its callers that the iterator ends.
 pub fn run_owner(ledgers: &mut Ledgers, owner: u16, calls: &[OwnerCall])
     ensures left { ledgers_of ledgers.new ≡ calls_left owner calls.now (ledgers_of ledgers.old) }
     ensures others { (k : ℕ) → (k ≢ owner) → ledgers_of ledgers.new k ≡ ledgers_of ledgers.old k }

@@ -44,10 +44,10 @@ impl Desk {
             purpose: 2,
         };
         let drawn = self.ledgers.draw(owner, usage);
-        let answer = match &drawn {
-            Ok(permit) => Ok(permit.number().serial),
-            Err(fault) => Err(*fault),
-        };
+        let answer = drawn
+            .as_ref()
+            .map(|permit| permit.number().serial)
+            .map_err(|fault| *fault);
         self.write(Line::Drawn {
             session,
             owner,

@@ -36,6 +36,7 @@ impl Default for Line {
     }
 }
 
+// No `Display` of a closing: these words are this morning's, and the type is of another crate.
 fn verb(closing: Closing) -> &'static str
     ensures { result.now ≡ verb_text closing }
 {

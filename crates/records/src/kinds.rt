@@ -29,8 +29,8 @@ pub struct Consent {
     pub data_type: u16,
 }
 
-// `same` of each kind says that its `==`, which is derived, is equality of all fields. It is one call a kind and not a
-// generic one: which fields there are is said of each kind by itself.
+// `same` is the derived `==` with what it means: that all fields are equal. It is one call a kind and not a generic one, since
+// which fields there are is said of each kind by itself.
 impl PlainGrant {
     pub fn same(&self, plain: &PlainGrant) -> bool
         ensures value { result ≡ same_plain self.now plain.now }

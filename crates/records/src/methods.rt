@@ -1,4 +1,5 @@
-// The calls that change a set. Each says the list of records that it leaves, exactly; the number of places never changes.
+// The calls that change a set. Each says the list of records that it leaves, exactly; the number of places never changes,
+// which is a clause of each: a relation of two states, and no fact of one value that the type could keep.
 ghost use Rattle.std.specs.Prelude.{◌≡◌, ◌+◌, true, false, not, [], length, is_ok, filter};
 ghost use Rattle.records.specs.Lists.{some, without};
 ghost use Rattle.records.specs.Sets.{records, room, answer_number, add_answer, after_add, remove_answer, Gains, Loses};

@@ -17,6 +17,7 @@ pub enum SetFault {
 #[derive(Drop)]
 pub struct RecordSet<'a, T: Record> {
     pub(crate) places: &'a mut [T],
+    // a number beside the places and no shorter slice: they are lent whole, and how many are used is the set's own
     pub(crate) cap: usize,
     pub(crate) count: usize,
     ghost within: { count ≤ min (length places.now) cap },

@@ -13,6 +13,7 @@ pub enum RegisterFault {
 }
 
 impl RegisterFault {
+    // Each enum of refusals states its own table of numbers: a trait would have this body in each all the same.
     pub fn number(self) -> u8
         ensures { result ≡ fault_number self }
     {

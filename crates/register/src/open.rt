@@ -9,7 +9,8 @@ use crate::list_register::ListRegister;
 use crate::register::ConsentRegister;
 use records::kinds::Consent;
 
-// What is done with a register, whatever its make. A trait and no closure: its call is generic in the register.
+// What is done with a register, whatever its make. A trait and no closure: a job is proved over any make by its meaning, and a
+// closure would have `open_list` ask of its caller that it may be called.
 pub trait Job {
     // what the job makes of itself over a register of this meaning
     ghost done: { Self → Register → Self → Type 0 };

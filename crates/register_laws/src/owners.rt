@@ -23,7 +23,7 @@ pub fn withdraw<R: ConsentRegister>(register: &mut R, consent: Consent) -> Resul
     register.withdraw(consent)
 }
 
-// What two gives were answered.
+// What two gives were answered. A struct and no tuple: the clauses name them.
 pub struct BothGiven {
     pub first: Result<(), RegisterFault>,
     pub second: Result<(), RegisterFault>,

@@ -2,7 +2,8 @@
 use calls::command::Command;
 use ledger::place::Use;
 
-// A permit goes by its two numbers, its owner's and its serial.
+// A permit goes by its two numbers, its owner's and its serial, which are fields of the cases: the definitions of the rules and
+// of the law name them one by one. An entry and a handing back are two cases, since an entry has a question more.
 #[derive(Clone, Copy)]
 pub enum Call {
     Command(Command),

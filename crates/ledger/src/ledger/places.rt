@@ -20,8 +20,8 @@ pub(super) fn draw(places: &mut [Place], serial: u16, usage: Use)
     }
 }
 
-// Closes the permits that are meant, and says how many there were. A loop and no chain: a place is changed and counted in
-// the same step.
+// Closes the permits that are meant, and says how many there were. A loop and no chain: a place is changed as it is counted,
+// and of what a closure changed a proof knows nothing.
 pub(super) fn close(places: &mut [Place], which: Which, closing: Closing) -> u16
     requires { length places.old ≤ 8 }
     ensures many { result ≡ count_by (meets (permits_of which)) places.old }

@@ -3,6 +3,7 @@
 
 #[cfg(test)]
 mod tests {
+    use account::number::number;
     use records::kinds::Consent;
     use records::record::Pair;
     use register::bit_register::BitRegister;
@@ -11,16 +12,10 @@ mod tests {
     use register::list_register::ListRegister;
     use register::open::{Job, open_list};
     use register::register::ConsentRegister;
+    use std::test::Fail;
 
     // What the calls of `answers_of` are to be answered.
     const ANSWERS: [u8; 12] = [0, 9, 1, 1, 1, 10, 1, 0, 0, 0, 10, 0];
-
-    fn number(answer: Result<(), RegisterFault>) -> u8 {
-        match answer {
-            Ok(()) => 0,
-            Err(fault) => fault.number(),
-        }
-    }
 
     fn consent(owner: u16, purpose: u16, data_type: u16) -> Consent {
         Consent {
@@ -87,6 +82,7 @@ mod tests {
         neighbour: u8,
     }
 
+    // Numbers that no call is answered with, where nothing was answered yet.
     fn not_begun() -> Trial {
         Trial {
             limit: 0,
@@ -161,20 +157,17 @@ mod tests {
     }
 
     #[test]
-    fn a_list_at_hand_follows_the_table(rt: HostRuntime) {
+    fn a_list_at_hand_follows_the_table(rt: HostRuntime) -> Result<(), Fail> {
         let mut places = [consent(0, 0, 0); 384];
-        match ListRegister::new(&mut places) {
-            Ok(made) => {
-                let mut register = made;
-                assert_eq!(rt; register.limit(), 3);
-                assert_eq!(rt; answers_of(&mut register), ANSWERS);
-                assert_eq!(rt; held_after(&mut register), HELD);
-            }
-            Err(_) => assert!(rt; false),
-        }
+        let mut register = ListRegister::new(&mut places)?;
+        assert_eq!(rt; register.limit(), 3);
+        assert_eq!(rt; answers_of(&mut register), ANSWERS);
+        assert_eq!(rt; held_after(&mut register), HELD);
+        let mut few = [consent(0, 0, 0); 127];
         assert_eq!(rt;
-            ListRegister::new(&mut places[..127]).err(),
+            ListRegister::new(&mut few).err(),
             Some(RegisterFault::Full)
         );
+        Ok(())
     }
 }

@@ -1,5 +1,5 @@
 use Rattle.std.proofs.Common.{◌≡◌, ◌+◌, None, sym, ap, ◌∙◌, subst, get_or, length, arith, length-set, rules}
-use Rattle.vocabulary.proofs.Sweeps.{swept, swept_none, swept_set, swept_all}
+use Rattle.vocabulary.proofs.Sweeps.{swept, swept_set, swept_all}
 use Rattle.bits.specs.Sets.{members}
 use Rattle.directory.specs.State.{with_sessions}
 use Rattle.directory.specs.Sessions.{ended}
@@ -7,9 +7,6 @@ use Rattle.directory.specs.View.{session_state, sessions_in, state_of}
 use Rattle.directory.proofs.Endings.{closed_if, closed_if_meant, closed_if_not_meant, closed_past}
 use Rattle.directory.proofs.directory.Directory.end_sessions.Goals as goal
 use Rattle.directory.proofs.directory.Directory.end_sessions.Goals.{then-contains, else-contains}
-
-pub loop-number-init : goal.loop-number-init
-loop-number-init c = (search rules, swept_none (closed_if (members c.args.which)) (sessions_in c.args.self.now.sessions))
 
 pub loop-number-preserved : goal.loop-number-preserved
 loop-number-preserved c =

@@ -2,15 +2,12 @@ use Rattle.std.proofs.Common.{◌≡◌, ℕ, Bool, true, ltb, sym, ap, ◌∙�
 use Rattle.std.proofs.lemmas.Bool.{lt-ltb, cond-true}
 use Rattle.bits.specs.Tables.{put}
 use Rattle.vocabulary.specs.Tables.{so_far}
-use Rattle.vocabulary.proofs.Marks.{marks_none, marks_yes, marks_no}
+use Rattle.vocabulary.proofs.Marks.{marks_yes, marks_no}
 use Rattle.bits.specs.Sets.{members}
 use Rattle.directory.specs.Sessions.{is_meant, sessions_that}
 use Rattle.directory.specs.View.{state_of}
 use Rattle.directory.proofs.directory.Directory.sessions_that.Goals as goal
 use Rattle.directory.proofs.directory.Directory.sessions_that.Goals.{then-is_meant, else-is_meant}
-
-pub loop-number-init : goal.loop-number-init
-loop-number-init c = c.empty-found.ensures.members ∙ marks_none (λ s. is_meant (state_of c.args.self.now) c.args.which ((state_of c.args.self.now).session s))
 
 pub loop-number-preserved : goal.loop-number-preserved
 loop-number-preserved c =

@@ -1,15 +1,12 @@
-use Rattle.std.proofs.Common.{◌≡◌, ℕ, Bool, false, is_some, None, ap, ◌∙◌, refl, arith, length-set, rules}
+use Rattle.std.proofs.Common.{◌≡◌, ℕ, Bool, false, is_some, None, ap, ◌∙◌, arith, length-set, rules}
 use Rattle.vocabulary.proofs.Lists.{put_set}
 use Rattle.vocabulary.proofs.Puts.{put_same}
-use Rattle.vocabulary.proofs.Sweeps.{swept, swept_none, swept_set, swept_all}
+use Rattle.vocabulary.proofs.Sweeps.{swept, swept_set, swept_all}
 use Rattle.bits.specs.Tables.{put}
 use Rattle.directory.specs.State.{with_users, with_assigned}
 use Rattle.directory.specs.View.{roles_in, exist_in, assigned_in, state_of}
 use Rattle.directory.proofs.Unassigned.{nobody_past}
 use Rattle.directory.proofs.directory.Directory.unassign_all.Goals as goal
-
-pub loop-roles-init : goal.loop-roles-init
-loop-roles-init c = (search rules, swept_none (λ _. put c.args.role false) (assigned_in c.args.self.now.users), refl)
 
 pub loop-roles-preserved : goal.loop-roles-preserved
 loop-roles-preserved c =

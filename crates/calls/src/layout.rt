@@ -46,6 +46,7 @@ const FIELD_COUNTS: [usize; 31] = [
 
 // How many fields a record of this kind has; 0 where there is no such kind, so that every record has a size, also one
 // that a caller put together.
+// That there are at most four is a clause of each call that says so; the type that holds a count, `Encoded`, has it as a fact.
 pub fn fields_of(kind: u16) -> usize
     ensures value { result ≡ field_count kind }
     ensures few { result ≤ 4 }

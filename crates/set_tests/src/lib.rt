@@ -3,8 +3,7 @@
 
 #[cfg(test)]
 mod tests {
-    use bits::set::TypeSet;
-    use bits::set::{RoleSet, SessionSet};
+    use bits::set::{RoleSet, SessionSet, TypeSet};
     use records::kinds::{Consent, PlainGrant, PrivateGrant};
     use records::record::{Pair, Thing};
     use records::set::{RecordSet, SetFault};

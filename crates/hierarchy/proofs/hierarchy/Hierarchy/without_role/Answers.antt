@@ -1,8 +1,8 @@
 -- The role is out of every row, and its own row is empty.
-use Rattle.std.proofs.Common.{◌≡◌, false, set, ap, ◌∙◌, arith, length-set, rules}
+use Rattle.std.proofs.Common.{◌≡◌, false, set, ap, ◌∙◌, arith, length-set}
 use Rattle.bits.specs.Sets.{members, none}
 use Rattle.bits.specs.Tables.{put}
-use Rattle.vocabulary.proofs.Sweeps.{swept, swept_none, swept_all, swept_set}
+use Rattle.vocabulary.proofs.Sweeps.{swept, swept_all, swept_set}
 use Rattle.hierarchy.specs.Inheritance.{pairs_in, no_roles}
 use Rattle.hierarchy.specs.Edits.{without_role}
 use Rattle.hierarchy.proofs.Rows.{row_written}
@@ -25,9 +25,6 @@ invariant_of-result c =
     let h = c.args.self in
     let gone = role_is_gone (pairs_in h.juniors) c.args.role _ (left c) in
     record { acyclic = cut_acyclic (pairs_in h.juniors) _ _ gone h.acyclic; inside = cut_bounded (pairs_in h.juniors) _ _ gone h.inside }
-
-pub loop-row-init : goal.loop-row-init
-loop-row-init c = (search rules, swept_none (λ _. put c.args.role false) (pairs_in c.args.self.juniors))
 
 pub loop-row-preserved : goal.loop-row-preserved
 loop-row-preserved c =

@@ -40,14 +40,27 @@ impl Line {
         self.len = to;
     }
 
+    fn put_digits(&mut self, n: usize)
+        requires { length (text self.old) + length (decimal n) ≤ 160 }
+        ensures { text self.new ≡ text self.old ++ decimal n }
+    {
+        if n < 10 {
+            let digit = [b'0' + n as u8];
+            self.put(&digit);
+            return;
+        }
+        self.put_digits(n / 10);
+        let digit = [b'0' + (n % 10) as u8];
+        self.put(&digit);
+    }
+
     // The number in decimal digits, at most 20 of them.
     fn put_number(&mut self, n: usize)
         requires { length (text self.old) + 20 ≤ 160 }
         ensures text { text self.new ≡ text self.old ++ decimal n }
         ensures short { length (text self.new) ≤ length (text self.old) + 20 }
     {
-        let mut digits = itoa::Buffer::new();
-        self.put(digits.format(n).as_bytes());
+        self.put_digits(n);
     }
 }
 

@@ -7,7 +7,7 @@ use std::io;
 
 fn main(rt: HostRuntime) -> io::Result<()> {
     let morning = run();
-    for line in morning.lines.iter() {
+    for line in morning.lines.iter().flatten() {
         println!(rt; "{line}")?;
     }
     for account in &morning.accounts {

@@ -4,7 +4,6 @@ ghost use Rattle.std.specs.Prelude.{◌≡◌, true, false, IfOk};
 ghost use Rattle.permit_scenario.specs.Accounts.{adds_up};
 
 use crate::line::{Account, Line};
-use arrayvec::ArrayVec;
 use bits::set::SessionSet;
 use ledger::fault::LedgerFault;
 use ledger::ledgers::Ledgers;
@@ -17,20 +16,22 @@ pub const LINES: usize = 32;
 #[derive(Drop)]
 pub(crate) struct Desk {
     ledgers: Ledgers,
-    pub(crate) lines: ArrayVec<Line, LINES>,
+    pub(crate) lines: [Option<Line>; LINES],
 }
 
 impl Desk {
     pub(crate) fn open() -> Desk {
         Desk {
             ledgers: Ledgers::new(),
-            lines: ArrayVec::new(),
+            lines: [None; LINES],
         }
     }
 
     // Where there is no room left, the line is not written down.
     fn write(&mut self, line: Line) {
-        let _ = self.lines.try_push(line);
+        if let Some(at) = self.lines.iter().position(|place| place.is_none()) {
+            self.lines[at] = Some(line);
+        }
     }
 
     // Draws a permit for the pay line of an owner.

@@ -27,7 +27,7 @@ pub enum Line {
     },
 }
 
-// What a vector of a fixed capacity keeps where no line was written yet. By hand, since a derive takes a case with no fields.
+// What a caller's own list of lines may keep where none was written. By hand, since a derive takes a case with no fields.
 impl Default for Line {
     ghost is_default = { λ l. l ≡ Ended 0 };
 

@@ -4,13 +4,13 @@ ghost use Rattle.permit_scenario.specs.Accounts.{all_add_up, owners_of};
 
 use crate::desk::{Desk, LINES};
 use crate::line::{Account, Line};
-use arrayvec::ArrayVec;
 use ledger::place::Closing;
 
 // What was written down, and the accounts of the two owners in the end.
 #[derive(Drop)]
 pub struct Morning {
-    pub lines: ArrayVec<Line, LINES>,
+    // none where no line was written
+    pub lines: [Option<Line>; LINES],
     pub accounts: [Account; 2],
 }
 

@@ -1,8 +1,7 @@
 -- What a set of records holds, and what its calls answer and leave.
 use Rattle.std.specs.Prelude.{◌≡◌, ℕ, ◌+◌, min, Bool, true, false, cond, List, [], ◌∷◌, ◌++◌, length, take, Ok, Err, Result, nat_lt}
 use Rattle.records.specs.Lists.{holds, apart, without}
-use Rattle.std.specs.declared.cmp.PartialEq.{Ghosts as EqGhosts}
-use Rattle.records.specs.declared.record.Record.{Ghosts as RecordGhosts}
+use Rattle.records.specs.declared.record.Record.{Ghosts}
 use Rattle.records.specs.declared.set.RecordSet.{RecordSet}
 use Rattle.records.specs.declared.set.SetFault.{SetFault}
 use Rattle.records.specs.declared.set.SetFault.TheVariants.{AlreadyThere, NotThere, NoPlace}
@@ -18,13 +17,13 @@ abbrev pub answer_number : Result (Unit {0}) SetFault → ℕ
 answer_number (Ok u) = 0
 answer_number (Err f) = fault_number f
 
-module _ {T : Type 0} {g : RecordGhosts T} {e : EqGhosts T} where
+module _ {T : Type 0} {g : Ghosts T} where
   -- the records, in their order
-  abbrev pub records : RecordSet T g e → List T
+  abbrev pub records : RecordSet T g → List T
   records s = take s.count s.places.now
 
   -- how many records there is room for: the places, but no more than the cap
-  abbrev pub room : RecordSet T g e → ℕ
+  abbrev pub room : RecordSet T g → ℕ
   room s = min (length s.places.now) s.cap
 
 module _ {T : Type 0} where

@@ -1,6 +1,8 @@
 // The three kinds of records: plain grants, private grants and consents.
 ghost use Rattle.std.specs.Prelude.{◌≡◌, Decides};
 ghost use Rattle.records.specs.Kinds.{same_plain, names_plain, same_private, names_private, names_grant, same_consent, names_consent};
+ghost use Rattle.std.proofs.Common.{rules};
+ghost use Rattle.std.specs.Cmp.Rules.{comparing};
 
 use crate::record::{Pair, Record, Thing};
 
@@ -29,35 +31,6 @@ pub struct Consent {
     pub data_type: u16,
 }
 
-// `same` is the derived `==` with what it means: that all fields are equal. It is one call a kind and not a generic one, since
-// which fields there are is said of each kind by itself.
-impl PlainGrant {
-    pub fn same(&self, plain: &PlainGrant) -> bool
-        ensures value { result ≡ same_plain self.now plain.now }
-        ensures fields { Decides result (self.now ≡ plain.now) }
-    {
-        self == plain
-    }
-}
-
-impl PrivateGrant {
-    pub fn same(&self, private: &PrivateGrant) -> bool
-        ensures value { result ≡ same_private self.now private.now }
-        ensures fields { Decides result (self.now ≡ private.now) }
-    {
-        self == private
-    }
-}
-
-impl Consent {
-    pub fn same(&self, consent: &Consent) -> bool
-        ensures value { result ≡ same_consent self.now consent.now }
-        ensures fields { Decides result (self.now ≡ consent.now) }
-    {
-        self == consent
-    }
-}
-
 fn grant_names(object: u16, role: u16, thing: Thing) -> bool
     ensures { result ≡ names_grant object role thing }
 {
@@ -70,7 +43,18 @@ fn grant_names(object: u16, role: u16, thing: Thing) -> bool
 }
 
 impl Record for PlainGrant {
+    ghost equal = { same_plain };
+
     ghost naming = { names_plain };
+
+    ghost laws = { Prim.search (comparing, rules) };
+
+    fn same(&self, plain: &PlainGrant) -> bool
+        ensures value { result ≡ same_plain self.now plain.now }
+        ensures fields { Decides result (self.now ≡ plain.now) }
+    {
+        self == plain
+    }
 
     fn names(&self, thing: Thing) -> bool {
         grant_names(self.object, self.role, thing)
@@ -78,7 +62,18 @@ impl Record for PlainGrant {
 }
 
 impl Record for PrivateGrant {
+    ghost equal = { same_private };
+
     ghost naming = { names_private };
+
+    ghost laws = { Prim.search (comparing, rules) };
+
+    fn same(&self, private: &PrivateGrant) -> bool
+        ensures value { result ≡ same_private self.now private.now }
+        ensures fields { Decides result (self.now ≡ private.now) }
+    {
+        self == private
+    }
 
     fn names(&self, thing: Thing) -> bool {
         grant_names(self.object, self.role, thing)
@@ -86,7 +81,18 @@ impl Record for PrivateGrant {
 }
 
 impl Record for Consent {
+    ghost equal = { same_consent };
+
     ghost naming = { names_consent };
+
+    ghost laws = { Prim.search (comparing, rules) };
+
+    fn same(&self, consent: &Consent) -> bool
+        ensures value { result ≡ same_consent self.now consent.now }
+        ensures fields { Decides result (self.now ≡ consent.now) }
+    {
+        self == consent
+    }
 
     fn names(&self, thing: Thing) -> bool {
         match thing {

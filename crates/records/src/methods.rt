@@ -11,10 +11,10 @@ use crate::set::{RecordSet, SetFault};
 impl<'a, T: Record + Copy> RecordSet<'a, T> {
     // Adds a record behind the others.
     pub fn add(&mut self, item: T) -> Result<(), SetFault>
-        ensures answer { answer_number result ≡ add_answer T.eq (room self.old) (records self.old) item }
-        ensures left { records self.new ≡ after_add T.eq (room self.old) (records self.old) item }
+        ensures answer { answer_number result ≡ add_answer T.equal (room self.old) (records self.old) item }
+        ensures left { records self.new ≡ after_add T.equal (room self.old) (records self.old) item }
         ensures room { room self.new ≡ room self.old }
-        ensures gains { is_ok result ≡ true → Gains T.eq (records self.old) (records self.new) item }
+        ensures gains { is_ok result ≡ true → Gains T.equal (records self.old) (records self.new) item }
     {
         if self.contains(&item) {
             return Err(SetFault::AlreadyThere);
@@ -29,13 +29,13 @@ impl<'a, T: Record + Copy> RecordSet<'a, T> {
 
     // Takes out the record that is the same as this one; the others keep their order, without a gap.
     pub fn remove(&mut self, item: &T) -> Result<(), SetFault>
-        ensures answer { answer_number result ≡ remove_answer T.eq (records self.old) item.now }
-        ensures left { records self.new ≡ without T.eq (records self.old) item.now }
+        ensures answer { answer_number result ≡ remove_answer T.equal (records self.old) item.now }
+        ensures left { records self.new ≡ without T.equal (records self.old) item.now }
         ensures room { room self.new ≡ room self.old }
         ensures refused { is_ok result ≡ false → records self.new ≡ records self.old }
-        ensures loses { is_ok result ≡ true → Loses T.eq (records self.old) (records self.new) item.now }
+        ensures loses { is_ok result ≡ true → Loses T.equal (records self.old) (records self.new) item.now }
     {
-        let left = sweep(self.places, self.count, |record| record != item);
+        let left = sweep(self.places, self.count, |record| !record.same(item));
         if left == self.count {
             return Err(SetFault::NotThere);
         }

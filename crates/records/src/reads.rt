@@ -46,14 +46,14 @@ impl<'a, T: Record + Copy> RecordSet<'a, T> {
     // The records in their order. No two are the same: that is an invariant of the type.
     pub fn as_slice(&self) -> &[T]
         ensures value { result.now ≡ records self.now }
-        ensures apart { apart T.eq (records self.now) ≡ true }
+        ensures apart { apart T.equal (records self.now) ≡ true }
     {
         &self.places[..self.count]
     }
 
     pub fn contains(&self, item: &T) -> bool
-        ensures { result ≡ holds T.eq (records self.now) item.now }
+        ensures { result ≡ holds T.equal (records self.now) item.now }
     {
-        self.as_slice().contains(item)
+        self.as_slice().iter().any(|record| record.same(item))
     }
 }

@@ -1,5 +1,6 @@
 // What a set has to know of its records.
 ghost use Rattle.std.specs.Prelude.{◌≡◌, Bool};
+ghost use Rattle.std.specs.Cmp.{IsEquivalence};
 ghost use Rattle.records.specs.declared.record.Thing.{Thing};
 
 // A purpose and a data type.
@@ -18,11 +19,18 @@ pub enum Thing {
     Pair(Pair),
 }
 
-// A record tells whether it equals another, and whether it names a thing. A set uses of equality only that it is an
-// equivalence.
-pub trait Record: Eq {
+// A record tells whether it is the same as another, and whether it names a thing. A set uses of sameness only that it is an
+// equivalence: it is `==` for the kinds here, and no `Eq` is asked, since for another kind `==` may tell more.
+pub trait Record {
+    ghost equal: { Self → Self → Bool };
+
     ghost naming: { Self → Thing → Bool };
+
+    fn same(&self, other: &Self) -> bool
+        ensures { result ≡ equal self.now other.now };
 
     fn names(&self, thing: Thing) -> bool
         ensures { result ≡ naming self.now thing };
+
+    ghost laws: { IsEquivalence equal };
 }

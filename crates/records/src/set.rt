@@ -21,5 +21,5 @@ pub struct RecordSet<'a, T: Record> {
     pub(crate) cap: usize,
     pub(crate) count: usize,
     ghost within: { count ≤ min (length places.now) cap },
-    ghost alone: { apart T.eq (take count places.now) ≡ true },
+    ghost alone: { apart T.equal (take count places.now) ≡ true },
 }

@@ -12,7 +12,7 @@ invariant_of-self g c =
     let pushed : take (s.count + 1) (set s.places.now s.count x) ≡ records s ++ x ∷ [] = take_more_set s.places.now s.count x (omega (arith, c.places.ensures)) in
     record {
       within = omega (arith, c.places.ensures, length-set s.places.now s.count x);
-      alone = ap (apart _) pushed ∙ apart_push _ g.met.T.Eq.laws (records s) x s.alone (sym c.contains.ensures ∙ c.if-contains.false);
+      alone = ap (apart _) pushed ∙ apart_push _ g.met.T.Record.laws (records s) x s.alone (sym c.contains.ensures ∙ c.if-contains.false);
     }
 
 pub returns-clause-gains : goal.returns-clause-gains
@@ -20,4 +20,4 @@ returns-clause-gains g c =
     let s = c.args.self.now in
     let x = c.args.item in
     let pushed : take (s.count + 1) (set s.places.now s.count x) ≡ records s ++ x ∷ [] = take_more_set s.places.now s.count x (omega (arith, c.places.ensures)) in
-    λ _. subst (λ ys. Gains g.T.PartialEq.eq (records s) ys x) (sym pushed) (gains _ g.met.T.Eq.laws (records s) x (sym c.contains.ensures ∙ c.if-contains.false))
+    λ _. subst (λ ys. Gains g.T.Record.equal (records s) ys x) (sym pushed) (gains _ g.met.T.Record.laws (records s) x (sym c.contains.ensures ∙ c.if-contains.false))

@@ -8,8 +8,8 @@ use Rattle.records.proofs.set.RecordSet.remove.Goals as goal
 use Rattle.records.proofs.set.RecordSet.remove.Goals.{After-sweep-left}
 
 module _ (g : _) (c : After-sweep-left g) where
-  kept : take c.sweep-left.result c.sweep-left.new.places ≡ without g.T.PartialEq.eq (records c.args.self.now) c.args.item.now
-  kept = c.sweep-left.ensures.kept (λ y. not (g.T.PartialEq.eq y c.args.item.now)) (λ y b r. search rules)
+  kept : take c.sweep-left.result c.sweep-left.new.places ≡ without g.T.Record.equal (records c.args.self.now) c.args.item.now
+  kept = c.sweep-left.ensures.kept (λ y. not (g.T.Record.equal y c.args.item.now)) (λ y b r. search rules)
 
   many : (length (take c.sweep-left.result c.sweep-left.new.places) ≡ c.sweep-left.result) × (length (records c.args.self.now) ≡ c.args.self.now.count)
   many =
@@ -17,15 +17,15 @@ module _ (g : _) (c : After-sweep-left g) where
       (omega (arith, s.within, length-take-le c.sweep-left.result c.sweep-left.new.places), omega (arith, s.within, length-take-le s.count s.places.now))
 
   -- where as many are left as there were, none was the same
-  none : c.sweep-left.result ≡ c.args.self.now.count → (holds g.T.PartialEq.eq (records c.args.self.now) c.args.item.now ≡ false) × (take c.args.self.now.count c.sweep-left.new.places ≡ records c.args.self.now)
+  none : c.sweep-left.result ≡ c.args.self.now.count → (holds g.T.Record.equal (records c.args.self.now) c.args.item.now ≡ false) × (take c.args.self.now.count c.sweep-left.new.places ≡ records c.args.self.now)
   none all =
       let s = c.args.self.now in
-      let found = none_taken _ g.met.T.Eq.laws (records s) _ c.args.item.now s.alone kept (omega (arith, many)) in
+      let found = none_taken _ g.met.T.Record.laws (records s) _ c.args.item.now s.alone kept (omega (arith, many)) in
       (found.0, ap (λ k. take k c.sweep-left.new.places) (sym all) ∙ found.1)
 
   -- where fewer are left, one was
-  held : (c.sweep-left.result ≡ c.args.self.now.count → ⊥) → holds g.T.PartialEq.eq (records c.args.self.now) c.args.item.now ≡ true
-  held fewer = one_taken _ g.met.T.Eq.laws (records c.args.self.now) _ c.args.item.now kept (λ e. fewer (omega (arith, many)))
+  held : (c.sweep-left.result ≡ c.args.self.now.count → ⊥) → holds g.T.Record.equal (records c.args.self.now) c.args.item.now ≡ true
+  held fewer = one_taken _ g.met.T.Record.laws (records c.args.self.now) _ c.args.item.now kept (λ e. fewer (omega (arith, many)))
 
 pub invariant_of-self : goal.invariant_of-self
 invariant_of-self g c =
@@ -50,4 +50,4 @@ pub returns-clause-loses : goal.returns-clause-loses
 returns-clause-loses g c =
     let s = c.args.self.now in
     let swept = (goal.at.returns-clause-loses g c).After-sweep-left in
-    λ _. subst (λ l. Loses g.T.PartialEq.eq (records s) l c.args.item.now) (sym (kept g swept)) (loses _ g.met.T.Eq.laws (records s) c.args.item.now s.alone (held g swept c.if-left-self.false))
+    λ _. subst (λ l. Loses g.T.Record.equal (records s) l c.args.item.now) (sym (kept g swept)) (loses _ g.met.T.Record.laws (records s) c.args.item.now s.alone (held g swept c.if-left-self.false))

@@ -1,4 +1,4 @@
-use Rattle.std.proofs.Common.{◌≡◌, length, ap, ◌∙◌}
+use Rattle.std.proofs.Common.{◌≡◌, length, ap, ◌∙◌, rules}
 use Rattle.records.specs.Sets.{records, room}
 use Rattle.register.specs.ListMeaning.{entries_of, share, list_meaning}
 use Rattle.account.specs.Steps.{answered, numbers, nothing}
@@ -13,4 +13,5 @@ returns c =
     record {
       answers = (made.0, c.run.ensures.answers ∙ ap (λ m. answered m c.args.entries.now) empty);
       numbers = c.run.ensures.numbers ∙ ap (λ m. numbers m c.args.entries.now) empty;
+      refused = search rules;
     }

@@ -50,7 +50,9 @@ impl Directory {
         ensures { state_of self.new ≡ with_assigned (λ u. put role false ((state_of self.old).assigned u)) (state_of self.old) }
     {
         for roles in self.users.iter_mut() {
-            *roles = roles.map(|assigned| assigned.without(role));
+            if let Some(assigned) = roles {
+                *assigned = assigned.without(role);
+            }
         }
     }
 }

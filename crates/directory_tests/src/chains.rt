@@ -28,6 +28,11 @@ fn chain_of_all_roles(rt: HostRuntime) -> Result<(), Fail> {
     assert_eq!(rt; number(chain.with_edge(64, 0)), 1);
     assert_eq!(rt; number(chain.without_edge(5, 7)), 10);
     assert_eq!(rt; number(chain.without_edge(0, 64)), 1);
+    // each refusal by the number that the hierarchy itself gives it
+    assert_eq!(rt; HierarchyFault::OutOfRange.number(), 1);
+    assert_eq!(rt; HierarchyFault::AlreadyThere.number(), 9);
+    assert_eq!(rt; HierarchyFault::NotThere.number(), 10);
+    assert_eq!(rt; HierarchyFault::Circle.number(), 11);
     Ok(())
 }
 

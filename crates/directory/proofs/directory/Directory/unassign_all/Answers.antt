@@ -1,4 +1,4 @@
-use Rattle.std.proofs.Common.{◌≡◌, ℕ, Bool, false, is_some, None, ap, ◌∙◌, arith, length-set, rules}
+use Rattle.std.proofs.Common.{◌≡◌, ℕ, ◌+◌, Bool, false, is_some, Some, None, get_or, set, refl, ap, ◌∙◌, arith, rules}
 use Rattle.vocabulary.proofs.Lists.{put_set}
 use Rattle.vocabulary.proofs.Puts.{put_same}
 use Rattle.vocabulary.proofs.Sweeps.{swept, swept_set, swept_all}
@@ -7,17 +7,24 @@ use Rattle.directory.specs.State.{with_users, with_assigned}
 use Rattle.directory.specs.View.{roles_in, exist_in, assigned_in, state_of}
 use Rattle.directory.proofs.Unassigned.{nobody_past}
 use Rattle.directory.proofs.directory.Directory.unassign_all.Goals as goal
+use Rattle.directory.proofs.directory.Directory.unassign_all.Goals.{in-Some, in_default}
 
 pub loop-roles-preserved : goal.loop-roles-preserved
 loop-roles-preserved c =
     let now = c.loop-roles.roles-items in
     let i = c.loop-roles.roles-index in
-    let v = c.map.result in
-    let inv = c.loop-roles.invariant in (
-      length-set now i v ∙ inv.0,
-      swept_set (λ _. put c.args.role false) (assigned_in c.args.self.now.users) roles_in now v None i (omega arith) inv.1 (search rules),
-      put_set is_some now i v None (omega arith) ∙ ap (λ x. put i x (exist_in now)) (search rules) ∙ put_same i (exist_in now) ∙ inv.2,
-    )
+    let inv = c.loop-roles.invariant in
+    -- a user at i who is as v then is without the role, and there is one if there was
+    let without : (v : _) → roles_in v ≡ put c.args.role false (assigned_in now i) → assigned_in (set now i v) ≡ swept (λ _. put c.args.role false) (assigned_in c.args.self.now.users) (i + 1) =
+    λ v written. swept_set (λ _. put c.args.role false) (assigned_in c.args.self.now.users) roles_in now v None i (omega arith) inv.1 written
+    in
+    let there : (v : _) → is_some v ≡ exist_in now i → exist_in (set now i v) ≡ exist_in c.args.self.now.users =
+    λ v is. put_set is_some now i v None (omega arith) ∙ ap (λ x. put i x (exist_in now)) is ∙ put_same i (exist_in now) ∙ inv.2
+    in
+    elim c.match-roles.branch [
+      | in-Some w ↦ (search rules, rw w.roles-items-is (without (Some w.without.result) (search rules)), rw w.roles-items-is (there (Some w.without.result) (search rules)))
+      | in_default w ↦ (search rules, rw w.roles-items-is (without (get_or now i None) (search rules)), rw w.roles-items-is (there (get_or now i None) refl))
+    ]
 
 pub returns : goal.returns
 returns c =

@@ -1,2 +1,3 @@
 mod Few
+pub mod Known
 pub mod Told

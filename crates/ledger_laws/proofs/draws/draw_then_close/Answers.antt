@@ -1,4 +1,4 @@
-use Rattle.std.proofs.Common.{ap}
+use Rattle.std.proofs.Common.{ap, rules}
 use Rattle.ledger.specs.Answers.{Answer}
 use Rattle.ledger.specs.Table.{ledgers_of}
 use Rattle.ledger.proofs.Tables.{table_sound}
@@ -16,6 +16,6 @@ returns c =
     let accepted = ap (λ (a : Answer). a.number) drew.answer in
     let permit = c.in_ok-permit.permit in
     record {
-      answer = once_answer c.args.closing o u f g sound accepted c.draw.ensures.left permit.number.owner permit.number.serial drew.serial.0 drew.serial.1 _ assumption;
-      left = left_at_once c.args.closing o u f g sound accepted c.draw.ensures.left permit.number.owner permit.number.serial drew.serial.0 drew.serial.1 _ assumption;
+      answer = once_answer c.args.closing o u f g sound accepted c.draw.ensures.left permit.number.owner permit.number.serial drew.serial.0 drew.serial.1 _ (search rules);
+      left = left_at_once c.args.closing o u f g sound accepted c.draw.ensures.left permit.number.owner permit.number.serial drew.serial.0 drew.serial.1 _ (search rules);
     }

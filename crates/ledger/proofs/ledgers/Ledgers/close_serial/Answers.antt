@@ -16,5 +16,5 @@ returns c =
     let lt = c.if-number-ge128.false in
     record {
       answer = table_answer ls o was in_all lt (close_questions n) (done_answer c.settle.result) (λ _. []) [] c.settle.ensures.answer;
-      left = table_left ls o was in_all lt (close_questions n) c.settle.new.self (closed c.args.closing (permits_of (Serial n))) c.settle.ensures.left;
+      left = table_left ls o was in_all lt (close_questions n) c.settle.new.self (closed c.args.closing (permits_of (Serial n))) (search rules);
     }

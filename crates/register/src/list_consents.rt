@@ -38,11 +38,13 @@ impl<'a> ListRegister<'a> {
     fn count(&self, owner: u16) -> usize
         ensures { result ≡ length (filter (of_owner owner) (records self.now.set)) }
     {
-        self.set
-            .as_slice()
-            .iter()
-            .filter(|consent| consent.owner == owner)
-            .count()
+        let mut many = 0;
+        for consent in self.set.as_slice() {
+            if consent.owner == owner {
+                many += 1;
+            }
+        }
+        many
     }
 }
 

@@ -1,4 +1,4 @@
-use Rattle.std.proofs.Common.{◌≡◌, true, false, leb, [], ◌∷◌, ◌++◌, length, sym, ap, ◌∙◌, rules}
+use Rattle.std.proofs.Common.{◌≡◌, true, false, leb, [], ◌∷◌, ◌++◌, length, sym, ap, ◌∙◌, arith, rules}
 use Rattle.std.specs.Prelude.{nat_lt}
 use Rattle.std.proofs.lemmas.Bool.{cond-true, cond-false, not_from_true}
 use Rattle.records.specs.Sets.{records, room, answer_number}
@@ -25,13 +25,13 @@ returns-then-contains-clause-left c =
 pub returns-then-count-limit-clause-answer : goal.returns-then-count-limit-clause-answer
 unfolding entries_of
 returns-then-count-limit-clause-answer c =
-    let full = is_full c.args.self.now c.args.consent.owner 0 0 _ _ c.count.ensures c.limit-limit.ensures c.if-count-limit.true in
+    let full = is_full c.args.self.now c.args.consent.owner 0 0 _ _ c.count.ensures c.limit-limit.ensures (omega (arith, c.if-count-limit.true)) in
     sym (cond-false _ _ _ (not_from_true _ (inside (goal.at.returns-then-count-limit-clause-answer c).After-contains)) ∙ cond-false _ _ _ (sym c.if-contains.ensures) ∙ cond-true _ _ _ full)
 
 pub returns-then-count-limit-clause-left : goal.returns-then-count-limit-clause-left
 unfolding entries_of
 returns-then-count-limit-clause-left c =
-    let full = is_full c.args.self.now c.args.consent.owner 0 0 _ _ c.count.ensures c.limit-limit.ensures c.if-count-limit.true in
+    let full = is_full c.args.self.now c.args.consent.owner 0 0 _ _ c.count.ensures c.limit-limit.ensures (omega (arith, c.if-count-limit.true)) in
     sym (cond-false _ _ _ (not_from_true _ (inside (goal.at.returns-then-count-limit-clause-left c).After-contains)) ∙ cond-false _ _ _ (sym c.if-contains.ensures) ∙ cond-true _ _ _ full)
 
 -- the consent is in range and new, and its owner is under the limit
@@ -44,7 +44,7 @@ module _ (c : After-add) where
   new = sym c.if-contains.ensures
 
   place : nat_lt (length (records c.args.self.now.set)) (room c.args.self.now.set) ≡ true
-  place = has_place c.args.self.now c.args.consent.owner c.args.consent.purpose c.args.consent.data_type _ _ c.count.ensures c.limit-limit.ensures c.if-count-limit.false within new
+  place = has_place c.args.self.now c.args.consent.owner c.args.consent.purpose c.args.consent.data_type _ _ c.count.ensures c.limit-limit.ensures (omega (arith, c.if-count-limit.false)) within new
 
   pushed : records c.add.new.self ≡ records c.args.self.now.set ++ c.args.consent ∷ []
   unfolding entries_of
@@ -55,12 +55,12 @@ module _ (c : After-add) where
   accepted = c.add.ensures.answer ∙ cond-false _ _ _ new ∙ cond-true _ _ _ place
 
   room_left : leb (share (room c.args.self.now.set)) (owned (entries_of (records c.args.self.now.set)) c.args.consent.owner) ≡ false
-  room_left = is_not_full c.args.self.now c.args.consent.owner 0 0 _ _ c.count.ensures c.limit-limit.ensures c.if-count-limit.false
+  room_left = is_not_full c.args.self.now c.args.consent.owner 0 0 _ _ c.count.ensures c.limit-limit.ensures (omega (arith, c.if-count-limit.false))
 
 pub invariant_of-self : goal.invariant_of-self
 invariant_of-self c =
     let x = c.args.consent in
-    let f = fine_given c.args.self.now x.owner x.purpose x.data_type _ _ c.count.ensures c.limit-limit.ensures c.if-count-limit.false (within c) (new c) c.add.ensures.room (pushed c) in
+    let f = fine_given c.args.self.now x.owner x.purpose x.data_type _ _ c.count.ensures c.limit-limit.ensures (omega (arith, c.if-count-limit.false)) (within c) (new c) c.add.ensures.room (pushed c) in
     record { inside = f.inside; under = f.under; enough = f.enough }
 
 pub returns-in_err-add-clause-answer : goal.returns-in_err-add-clause-answer
